@@ -1,0 +1,41 @@
+-- Document 01, "What the calls do", collect: what it answers and leaves.
+-- Assumes nothing.
+use Prim.Native.Nat.{ℕ, _*_}
+use mathlib.Core.Bool.{Bool, cond}
+use mathlib.Core.List.{List}
+use lib.ListN.{getD, set}
+use Rattle.terms.specs.Lists.{part, put, changes}
+use Rattle.terms.specs.Reply.{Reply, accepted, refused, onAccept}
+use Rattle.terms.specs.Sets.{bit}
+use Rattle.geometry.specs.Store.{readAt}
+use Rattle.geometry.specs.declared.State.{State}
+use Rattle.record.specs.Life.{free, isWrite, unitsOf}
+use Rattle.record.specs.declared.Record.{Record}
+use Rattle.array.specs.Lent.{rank}
+use Rattle.array.specs.Refusals.{collectRefusal}
+
+-- a read's units, ascending, at the front of the result buffer; the bytes behind them stay
+unfoldable pub handOver : State → ℕ → ℕ → List ℕ → List ℕ → List ℕ
+handOver st i mask work result =
+    changes (unitsOf st)
+    (λ u l. cond (bit u mask) (put (rank mask u * st .block) (part (readAt (st .cards) (st .block) i u) (st .block) work) l) l)
+    result
+
+-- what collect answers, the step count, and the table and the result buffer that it leaves; the state and the work store stay
+pub record Collection : Type 0 where
+  pub reply : Reply
+  pub table : List Record
+  pub result : List ℕ
+
+-- collect of record i, which is r
+unfoldable pub collecting : State → List Record → List ℕ → ℕ → Record → List ℕ → ℕ → Collection
+collecting st table work i r result number =
+    record {
+      reply = onAccept number (accepted (r .count) 0) (refused number);
+      table = onAccept number (set table i free) table;
+      result = onAccept number (cond (isWrite r) result (handOver st i (r .mask) work result)) result;
+    }
+
+unfoldable pub collection : State → List Record → List ℕ → ℕ → List ℕ → Collection
+collection st table work i result =
+    collecting st table work i (getD table i free) result (collectRefusal st table work i result)

@@ -1,0 +1,22 @@
+-- What a call is lent beside the image and the work store: the table, whose length refusal 2 tests, and the units of a mask as bytes.
+-- Assumes nothing.
+use Prim.Native.Nat.{ℕ, _*_, _%_, _^_}
+use mathlib.Core.Bool.{Bool, not}
+use mathlib.Core.List.{List}
+use lib.Count.{ones}
+use lib.Dec.{eqb}
+use lib.ListN.{length}
+use Rattle.geometry.specs.declared.State.{State}
+use Rattle.record.specs.declared.Record.{Record}
+
+-- refusal 2, of the table: it is not of K records
+unfoldable pub tableWrong : State → List Record → Bool
+tableWrong st table = not (eqb (length table) (st .records))
+
+-- m·B, with m the number of ones in the mask
+unfoldable pub unitBytes : State → ℕ → ℕ
+unitBytes st mask = ones mask * st .block
+
+-- the units in the mask below unit i: its place among them, ascending
+unfoldable pub rank : ℕ → ℕ → ℕ
+rank mask i = ones (mask % 2 ^ i)

@@ -1,0 +1,9 @@
+-- What the calls refuse, answer and leave.
+pub mod Lent
+pub mod Refusals
+pub mod Opening
+pub mod Admission
+pub mod Stepping
+pub mod Report
+pub mod Collection
+pub mod Scan

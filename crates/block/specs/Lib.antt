@@ -1,0 +1,2 @@
+-- Blocks as lists of bytes.
+pub mod Blocks

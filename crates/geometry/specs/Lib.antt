@@ -1,0 +1,5 @@
+-- The array's limits, placement, and where blocks stand.
+pub mod Limits
+pub mod Placement
+pub mod Answers
+pub mod Store

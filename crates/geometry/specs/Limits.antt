@@ -1,0 +1,36 @@
+-- Document 01, "The array": the limits of its numbers. Refusal 1 is given where they do not hold.
+-- Assumes nothing.
+use Prim.Native.Nat.{ℕ, _%_}
+use mathlib.Core.Bool.{Bool, _&&_, _||_, not}
+use lib.Dec.{ltb, eqb}
+use Rattle.terms.specs.Sets.{within}
+use Rattle.geometry.specs.declared.Geometry.{Geometry}
+use Rattle.geometry.specs.declared.State.{State}
+
+-- N cards, 3 to 8; S stripes, 1 to 1,024; B bytes in a block, 16 to 512, a multiple of 16; K request records, 1 to 8
+unfoldable pub legal : ℕ → ℕ → ℕ → ℕ → Bool
+legal N S B K = within 3 8 N && within 1 1024 S && (within 16 512 B && eqb (B % 16) 0) && within 1 8 K
+
+-- the number that says that no card is out
+abbrev pub none : ℕ
+none = 255
+
+-- the card that is out: 0 to N-1, or 255 for none
+unfoldable pub legalOut : ℕ → ℕ → Bool
+legalOut N out = ltb out N || eqb out none
+
+-- refusal 1, of a geometry and the card that is out: N, S, B or K is beyond its limits, or the card out is neither below N nor 255
+unfoldable pub beyond : Geometry → ℕ → Bool
+beyond g out = not (legal (g .cards) (g .stripes) (g .block) (g .records) && legalOut (g .cards) out)
+
+-- the geometry of a state
+abbrev pub geometryOf : State → Geometry
+geometryOf st = record { cards = st .cards; stripes = st .stripes; block = st .block; records = st .records }
+
+-- refusal 1, of a state
+abbrev pub beyondState : State → Bool
+beyondState st = beyond (geometryOf st) (st .out)
+
+-- refusal 4: the array is lost
+abbrev pub isLost : State → Bool
+isLost st = not (eqb (st .lost) 0)

@@ -1,0 +1,44 @@
+-- Document 01, "Placement": the left-symmetric layout of RAID level 5. A position of a stripe is 0 to n-1 for its units and n for its
+-- parity, n = N-1.
+-- Assumes nothing.
+use Prim.Native.Nat.{ℕ, _+_, _-_, _*_, _/_, _%_}
+use mathlib.Core.Bool.{Bool, cond}
+use lib.Dec.{ltb, eqb}
+use Rattle.terms.specs.Reply.{Reply, accepted, refused}
+use Rattle.geometry.specs.Limits.{none}
+use Rattle.geometry.specs.declared.State.{State}
+
+-- stripe s has its parity on card p = N-1-(s mod N)
+unfoldable pub parityCard : ℕ → ℕ → ℕ
+parityCard N s = N - 1 - s % N
+
+-- the card of position j of stripe s: unit i is on card (p+1+i) mod N, and position n comes to p
+unfoldable pub cardAt : ℕ → ℕ → ℕ → ℕ
+cardAt N s j = (parityCard N s + 1 + j) % N
+
+-- the position of card c in stripe s
+unfoldable pub positionOf : ℕ → ℕ → ℕ → ℕ
+positionOf N s c = (c + s % N) % N
+
+-- logical block L is unit L mod n of stripe L div n
+abbrev pub stripeOf : ℕ → ℕ → ℕ
+stripeOf N L = L / (N - 1)
+
+abbrev pub unitOf : ℕ → ℕ → ℕ
+unitOf N L = L % (N - 1)
+
+-- the card of logical block L
+abbrev pub cardOf : ℕ → ℕ → ℕ
+cardOf N L = cardAt N (stripeOf N L) (unitOf N L)
+
+-- the other way: the block number of unit i of stripe s
+abbrev pub blockOf : ℕ → ℕ → ℕ → ℕ
+blockOf N s i = (N - 1) * s + i
+
+-- the card that is missing in a stripe, or 255: the card that is out
+unfoldable pub outIn : State → ℕ → ℕ
+outIn st s = st .out
+
+-- the position of a card in stripe s where it is below N, and N, which is no position, where it is not
+unfoldable pub missingAt : ℕ → ℕ → ℕ → ℕ
+missingAt N s c = cond (ltb c N) (positionOf N s c) N

@@ -1,0 +1,3 @@
+-- Right parity, where it disagrees, and the scan of an array with nothing open.
+pub mod Parity
+pub mod Scan

@@ -1,0 +1,39 @@
+-- Document 01, "Refusal numbers", 13: the lowest stripe and the lowest byte in it where parity disagrees.
+-- Assumes nothing.
+use Prim.Native.Nat.{ℕ, _+_}
+use mathlib.Core.Bool.{Bool, true, cond, not, _&&_}
+use mathlib.Core.List.{List}
+use lib.Dec.{ltb, eqb}
+use lib.ListN.{getD}
+use Rattle.terms.specs.Reply.{Reply, accepted}
+use Rattle.terms.specs.Sets.{lowest, xorTo}
+use Rattle.geometry.specs.Store.{cellAt}
+
+-- byte b of the block of card c in stripe s
+unfoldable pub byteAt : ℕ → ℕ → List ℕ → ℕ → ℕ → ℕ → ℕ
+byteAt S B image c s b = getD image (cellAt S B c s + b) 0
+
+-- the exclusive or of byte b of all N cards in stripe s: zero where the parity there is right
+unfoldable pub parityByte : ℕ → ℕ → ℕ → List ℕ → ℕ → ℕ → ℕ
+parityByte N S B image s b = xorTo N (λ c. byteAt S B image c s b)
+
+-- the lowest byte of stripe s where parity disagrees, and B where it is right
+unfoldable pub wrongByte : ℕ → ℕ → ℕ → List ℕ → ℕ → ℕ
+wrongByte N S B image s = lowest B (λ b. not (eqb (parityByte N S B image s b) 0))
+
+-- the lowest stripe that is not passed over where parity disagrees, and S where there is none
+unfoldable pub wrongStripe : ℕ → ℕ → ℕ → List ℕ → (ℕ → Bool) → ℕ
+wrongStripe N S B image pass = lowest S (λ s. not (pass s) && ltb (wrongByte N S B image s) B)
+
+-- parity is right in every stripe that is not passed over
+unfoldable pub rightParity : ℕ → ℕ → ℕ → List ℕ → (ℕ → Bool) → Bool
+rightParity N S B image pass = eqb (wrongStripe N S B image pass) S
+
+-- refusal 13: the lowest stripe and the lowest byte in it
+unfoldable pub disagreement : ℕ → ℕ → ℕ → List ℕ → (ℕ → Bool) → Reply
+disagreement N S B image pass =
+    record {
+      number = 13;
+      first = wrongStripe N S B image pass;
+      second = wrongByte N S B image (wrongStripe N S B image pass);
+    }

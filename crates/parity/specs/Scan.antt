@@ -1,0 +1,32 @@
+-- Document 01, "Refusal numbers": the scan of an array with nothing open, which is lent no table and has no 3.
+-- Assumes nothing.
+use Prim.Native.Nat.{ℕ}
+use mathlib.Core.Bool.{Bool, false, not}
+use mathlib.Core.List.{List, [], _∷_}
+use lib.Dec.{eqb}
+use Rattle.terms.specs.Reply.{Reply, accepted, row, firstRow, onAccept, refusedOr13}
+use Rattle.geometry.specs.Limits.{none, beyondState, isLost}
+use Rattle.geometry.specs.Store.{imageWrong}
+use Rattle.geometry.specs.declared.State.{State}
+use Rattle.parity.specs.Parity.{rightParity, disagreement}
+
+-- no stripe is passed over
+abbrev pub nothingHeld : ℕ → Bool
+nothingHeld s = false
+
+-- 1, 2, 4, 12, 13
+unfoldable pub idleScanRefusal : State → List ℕ → ℕ
+idleScanRefusal st image =
+    firstRow
+    (row (beyondState st) 1
+    ∷ row (imageWrong st image) 2
+    ∷ row (isLost st) 4
+    ∷ row (not (eqb (st .out) none)) 12
+    ∷ row (not (rightParity (st .cards) (st .stripes) (st .block) image nothingHeld)) 13
+    ∷ [])
+
+-- it answers that parity is right, or gives refusal 13 with the lowest stripe and the lowest byte in it
+unfoldable pub idleScanReply : State → List ℕ → Reply
+idleScanReply st image =
+    let number = idleScanRefusal st image in
+    onAccept number (accepted 0 0) (refusedOr13 number (disagreement (st .cards) (st .stripes) (st .block) image nothingHeld))

@@ -1,0 +1,3 @@
+-- The request record, what becomes of it, and when a table is sound.
+pub mod Life
+pub mod Sound

@@ -1,0 +1,27 @@
+// The request record by value, and the table of up to eight of them.
+// Assumes nothing.
+
+// A request record. A free one is all zero.
+#[repr(C)]
+pub struct Record {
+    // free, open or finished: 0, 1, 2
+    pub phase: u64,
+    // read or write: 0, 1
+    pub write: u64,
+    pub stripe: u64,
+    // bit i is unit i
+    pub mask: u64,
+    pub graph: u64,
+    // the card that was out when the graph was chosen, or 255
+    pub chosen: u64,
+    // the done steps: bit k is step k
+    pub done: u64,
+    // the accepted steps since admission
+    pub count: u64,
+}
+
+// A table by value: its records, of which the first len count.
+pub struct Table {
+    pub records: [Record; 8],
+    pub len: u64,
+}

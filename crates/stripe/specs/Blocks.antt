@@ -1,0 +1,37 @@
+-- What a stripe and a request's work store hold, by position, and what a done step does to them.
+-- Assumes nothing.
+use Prim.Native.Nat.{ℕ, suc}
+use mathlib.Core.Bool.{Bool, cond}
+use lib.Dec.{eqb}
+use Rattle.graph.specs.Steps.{Step, rd, xr, wr, nil}
+use Rattle.graph.specs.Sums.{takesRead, takesNew, sumsToRead}
+use Rattle.stripe.specs.Group.{Group, sumTo}
+use Rattle.stripe.specs.Request.{Request}
+
+-- a stripe's contents, the request's read blocks and its blocks to write, each a function of the position
+pub record Blocks (A : Type 0) : Type 0 where
+  pub cell : ℕ → A
+  pub got : ℕ → A
+  pub new : ℕ → A
+
+-- f with a at position p
+unfoldable pub changed : {A : Type 0} → (ℕ → A) → ℕ → A → ℕ → A
+changed f p a i = cond (eqb i p) a (f i)
+
+-- the exclusive or of a request's graph: of the read blocks and the new units that it takes
+unfoldable pub total : (G : Group) → ℕ → Request → Blocks (G .carrier) → G .carrier
+total G n q b =
+    G .add
+    (sumTo G (suc n) (λ p. cond (takesRead n (q .graph) (q .mask) (q .missed) p) (b .got p) (G .nought)))
+    (sumTo G (suc n) (λ p. cond (takesNew n (q .graph) (q .mask) p) (b .new p) (G .nought)))
+
+-- a read step copies its position to the read blocks; the exclusive or goes to the read block of X in graph 2, else to the last block to
+-- write; a write step copies its block to write to its position
+unfoldable pub performed : (G : Group) → ℕ → Request → Step → Blocks (G .carrier) → Blocks (G .carrier)
+performed G n q (rd p) b = record { cell = b .cell; got = changed (b .got) p (b .cell p); new = b .new }
+performed G n q xr b =
+    cond (sumsToRead (q .graph))
+    (record { cell = b .cell; got = changed (b .got) (q .missed) (total G n q b); new = b .new })
+    (record { cell = b .cell; got = b .got; new = changed (b .new) n (total G n q b) })
+performed G n q (wr p) b = record { cell = changed (b .cell) p (b .new p); got = b .got; new = b .new }
+performed G n q nil b = b

@@ -1,0 +1,4 @@
+-- The words, by subject.
+pub mod Reply
+pub mod Sets
+pub mod Lists
