@@ -1,0 +1,3 @@
+-- The laws of placement and of where blocks stand.
+pub mod Places
+pub mod Apart
