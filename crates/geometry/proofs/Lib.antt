@@ -1,3 +1,4 @@
 -- The laws of placement and of where blocks stand.
 pub mod Places
 pub mod Apart
+pub mod Bounds
