@@ -2,3 +2,4 @@
 pub mod Places
 pub mod Apart
 pub mod Bounds
+pub mod Flags
