@@ -1,0 +1,3 @@
+-- Laws of the words of specs/, by subject.
+pub mod Lists
+pub mod Rows
