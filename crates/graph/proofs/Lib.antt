@@ -1,0 +1,5 @@
+-- Laws of the graphs, by subject.
+pub mod Bits
+pub mod Graphs
+pub mod Numbers
+pub mod Laws
