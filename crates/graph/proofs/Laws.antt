@@ -2,7 +2,7 @@
 -- unfinished one has a ready step.
 -- Assumes nothing.
 use Prim.Native.Nat.{ℕ, zero, suc, _+_, _-_, _*_, _^_, _≤_, _<_}
-use mathlib.Core.Bool.{Bool, true, false, cond, not, _&&_, _||_, or-true}
+use mathlib.Core.Bool.{Bool, true, false, cond, not, _&&_, _||_}
 use mathlib.Core.Logic.{_⊎_, inl, inr, ⊎-elim}
 use mathlib.Core.Path.{_≡_, refl, sym, ap, _∙_}
 use native.Mathlib.Nat.{not-suc-le-zero}
@@ -10,13 +10,23 @@ use native.Mathlib.Omega.{arith}
 use borrow.Author.Tests.{ltb-true, ltb-false, lt-ltb, le-ltb, leb-true, leb-false, le-leb, lt-leb, eqb-true, eqb-false, eq-eqb, ne-eqb, not-true, not-false}
 use lib.Dec.{ltb, leb, eqb}
 use lib.Pow.{pow-pos}
-use Rattle.terms.proofs.Rows.{true≢false, and-left, and-right, and-both, and-false-cases, or-cases, or-false-left, or-false-right, or-not-elim, or-not-intro, truth}
+use Rattle.terms.proofs.Bits.{bit-none, bit-add-other, add-bound}
+use Rattle.terms.proofs.Rows.{true≢false, and-left, and-right, and-both, and-false-cases, or-false-left, or-false-right, or-not-elim, or-not-intro, truth}
+use Rattle.terms.proofs.Sets.{allBelow-elim, allBelow-intro, allBelow-fails}
 use Rattle.terms.specs.Sets.{bit, allBelow}
 use Rattle.graph.specs.Order.{anyRead, readOf, isSum, before, cleared, ready, after, complete, closed}
 use Rattle.graph.specs.Steps.{Step, rd, xr, wr, nil, stepOf, numberOf, stepNumbers, byGraph, masked, reads, sums, writes, member}
 use Rattle.graph.proofs.Graphs.{Graph, plain, degraded, small, reconstruct, large, failed, nought, above, graph, byGraph-above}
 use Rattle.graph.proofs.Numbers.{stepOf-above}
-use Rattle.graph.proofs.Bits.{all-at, all-intro, all-fails, bit-none, bit-after, after-lt}
+
+-- the done set after step k, which was not done: k, and what was done
+pub after-keeps : (done k j : ℕ) → bit k done ≡ false → bit j done ≡ true → bit j (after done k) ≡ true
+after-keeps done k j f b =
+    bit-add-other k done j f (λ q. true≢false (sym b ∙ ap (λ (i : ℕ). bit i done) q ∙ f)) ∙ b
+
+pub after-cases : (done k j : ℕ) → bit k done ≡ false → bit j (after done k) ≡ true → (j ≡ k) ⊎ (bit j done ≡ true)
+after-cases done k j f b =
+    ⊎-elim (λ q. inl (eqb-true j k q)) (λ q. inr (sym (bit-add-other k done j f (eqb-false j k q)) ∙ b)) (truth (eqb j k))
 
 module _ (n g mask x : ℕ) where
   -- a step of the graph has a number below 2n+3
@@ -34,14 +44,14 @@ module _ (n g mask x : ℕ) where
   unfolding cleared
   cleared-elim done s j c h b =
       or-not-elim (before n g mask x s (stepOf n j)) (bit j done)
-      (all-at (stepNumbers n) (λ i. not (before n g mask x s (stepOf n i)) || bit i done) j c h) b
+      (allBelow-elim (stepNumbers n) (λ i. not (before n g mask x s (stepOf n i)) || bit i done) c j h) b
 
   pub cleared-intro : (done : ℕ) (s : Step)
       → ((j : ℕ) → j < stepNumbers n → before n g mask x s (stepOf n j) ≡ true → bit j done ≡ true)
       → cleared n g mask x done s ≡ true
   unfolding cleared
   cleared-intro done s f =
-      all-intro (stepNumbers n) (λ i. not (before n g mask x s (stepOf n i)) || bit i done)
+      allBelow-intro (stepNumbers n) (λ i. not (before n g mask x s (stepOf n i)) || bit i done)
       (λ j h. or-not-intro (before n g mask x s (stepOf n j)) (bit j done) (f j h))
 
   -- what is cleared stays so as the done set grows
@@ -85,8 +95,8 @@ module _ (n g mask x : ℕ) where
   closed-elim done k e h b =
       let c =
       or-not-elim (bit k done) (member n g mask x (stepOf n k) && cleared n g mask x done (stepOf n k))
-      (all-at (stepNumbers n) (λ i. not (bit i done) || member n g mask x (stepOf n i) && cleared n g mask x done (stepOf n i)) k
-      (and-right (ltb done (2 ^ stepNumbers n)) _ e) h) b
+      (allBelow-elim (stepNumbers n) (λ i. not (bit i done) || member n g mask x (stepOf n i) && cleared n g mask x done (stepOf n i))
+      (and-right (ltb done (2 ^ stepNumbers n)) _ e) k h) b
       in
       (and-left (member n g mask x (stepOf n k)) _ c, and-right (member n g mask x (stepOf n k)) _ c)
 
@@ -97,7 +107,7 @@ module _ (n g mask x : ℕ) where
   unfolding closed
   closed-intro done l f =
       and-both (ltb done (2 ^ stepNumbers n)) _ (lt-ltb done (2 ^ stepNumbers n) l)
-      (all-intro (stepNumbers n) (λ i. not (bit i done) || member n g mask x (stepOf n i) && cleared n g mask x done (stepOf n i))
+      (allBelow-intro (stepNumbers n) (λ i. not (bit i done) || member n g mask x (stepOf n i) && cleared n g mask x done (stepOf n i))
       (λ k h.
       or-not-intro (bit k done) (member n g mask x (stepOf n k) && cleared n g mask x done (stepOf n k))
       (λ b. let (m, c) = f k h b in and-both (member n g mask x (stepOf n k)) _ m c)))
@@ -111,17 +121,13 @@ module _ (n g mask x : ℕ) where
       → closed n g mask x (after done k) ≡ true
   closed-after done k c e =
       let r = ready-elim done k e in
-      let grows : (j : ℕ) → bit j done ≡ true → bit j (after done k) ≡ true =
-      λ j b. bit-after k done j (r .not-done) ∙ (rw b (or-true (eqb j k)))
-      in
-      closed-intro (after done k) (after-lt (stepNumbers n) k done (r .not-done) (member-below k (r .in-graph)) (closed-bound done c))
+      let grown : (s : Step) → cleared n g mask x done s ≡ true → cleared n g mask x (after done k) s ≡ true =
+      λ s. cleared-grows done (after done k) s (λ j. after-keeps done k j (r .not-done)) in
+      closed-intro (after done k) (add-bound (stepNumbers n) k done (closed-bound done c) (member-below k (r .in-graph)) (r .not-done))
       (λ j h b.
-      ⊎-elim
-      (λ q. let z = eqb-true j k q in (rw z (r .in-graph), rw z (cleared-grows done (after done k) (stepOf n k) grows (r .lacks-none))))
-      (λ q.
-      let (m, l) = closed-elim done j c h q in
-      (m, cleared-grows done (after done k) (stepOf n j) grows l))
-      (or-cases (eqb j k) (bit j done) (sym (bit-after k done j (r .not-done)) ∙ b)))
+      ⊎-elim (λ (q : j ≡ k). (rw q (r .in-graph), rw q (grown (stepOf n k) (r .lacks-none))))
+      (λ q. let (m, l) = closed-elim done j c h q in (m, grown (stepOf n j) l))
+      (after-cases done k j (r .not-done) b))
 
   -- ---- all steps done
 
@@ -129,14 +135,14 @@ module _ (n g mask x : ℕ) where
   unfolding complete
   complete-elim done k e m =
       or-not-elim (member n g mask x (stepOf n k)) (bit k done)
-      (all-at (stepNumbers n) (λ i. not (member n g mask x (stepOf n i)) || bit i done) k e (member-below k m)) m
+      (allBelow-elim (stepNumbers n) (λ i. not (member n g mask x (stepOf n i)) || bit i done) e k (member-below k m)) m
 
   -- where a step is wanting, here is one
   pub incomplete : (done : ℕ) → complete n g mask x done ≡ false
       → (k : ℕ) × (member n g mask x (stepOf n k) ≡ true) × (bit k done ≡ false)
   unfolding complete
   incomplete done e =
-      let (k, h, f) = all-fails (stepNumbers n) (λ i. not (member n g mask x (stepOf n i)) || bit i done) e in
+      let (k, h, f) = allBelow-fails (stepNumbers n) (λ i. not (member n g mask x (stepOf n i)) || bit i done) e in
       (k, not-false (member n g mask x (stepOf n k)) (or-false-left _ (bit k done) f), or-false-right (not (member n g mask x (stepOf n k))) _ f)
 
 -- ---- each graph is acyclic: what must come before a step is of a lower rank, reads before the exclusive or, that before writes
@@ -238,7 +244,7 @@ module _ (n g mask x : ℕ) where
       → (j : ℕ) × (before n g mask x s (stepOf n j) ≡ true) × (bit j done ≡ false)
   unfolding cleared
   not-cleared done s e =
-      let (j, h, f) = all-fails (stepNumbers n) (λ i. not (before n g mask x s (stepOf n i)) || bit i done) e in (
+      let (j, h, f) = allBelow-fails (stepNumbers n) (λ i. not (before n g mask x s (stepOf n i)) || bit i done) e in (
         j,
         not-false (before n g mask x s (stepOf n j)) (or-false-left _ (bit j done) f),
         or-false-right (not (before n g mask x s (stepOf n j))) _ f,

@@ -1,5 +1,4 @@
 -- Laws of the graphs, by subject.
-pub mod Bits
 pub mod Graphs
 pub mod Numbers
 pub mod Laws
