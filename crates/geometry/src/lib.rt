@@ -1,5 +1,6 @@
 // The array's shape: its numbers by value, their limits, placement both ways, and where blocks stand.
 // Assumes nothing.
+pub mod report;
 
 mod limits;
 
