@@ -1,5 +1,6 @@
 -- The laws of placement and of where blocks stand.
 pub mod Places
+pub mod Turns
 pub mod Apart
 pub mod Bounds
 pub mod Flags
