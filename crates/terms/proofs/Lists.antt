@@ -101,16 +101,16 @@ module _ {ℓ} {A : Type ℓ} where
   part-cong at size l at′ l′ d h h′ e =
       ext-getD d (part at size l) (part at′ size l′) (length-part at size l h ∙ sym (length-part at′ size l′ h′))
       (λ i p.
-        let q : i < size = omega (arith, length-part at size l h) in
-        getD-part at size l i d q ∙ e i q ∙ sym (getD-part at′ size l′ i d q))
+      let q : i < size = omega (arith, length-part at size l h) in
+      getD-part at size l i d q ∙ e i q ∙ sym (getD-part at′ size l′ i d q))
 
   -- what was put in is what stands there
   pub part-put-same : (at : ℕ) (b l : List A) (d : A) → at + length b ≤ length l → part at (length b) (put at b l) ≡ b
   part-put-same at b l d h =
       ext-getD d (part at (length b) (put at b l)) b (length-part at (length b) (put at b l) (omega (arith, length-put at b l h)))
       (λ i p.
-        let q : i < length b = omega (arith, length-part at (length b) (put at b l) (omega (arith, length-put at b l h))) in
-        getD-part at (length b) (put at b l) i d q ∙ getD-put-in at b l i d (omega arith) q)
+      let q : i < length b = omega (arith, length-part at (length b) (put at b l) (omega (arith, length-put at b l h))) in
+      getD-part at (length b) (put at b l) i d q ∙ getD-put-in at b l i d (omega arith) q)
 
   -- a part that lies wholly before or behind it is as it was
   pub part-put-other : (at : ℕ) (b l : List A) (at′ size : ℕ) (d : A) → at + length b ≤ length l → at′ + size ≤ length l
