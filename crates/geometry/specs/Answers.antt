@@ -7,14 +7,19 @@ use lib.Dec.{leb, eqb}
 use Rattle.terms.specs.Reply.{Reply, accepted, refused, row, firstRow}
 use Rattle.geometry.specs.Limits.{beyond, none}
 use Rattle.geometry.specs.Placement.{stripeOf, cardOf, blockOf, positionOf}
+use Rattle.geometry.specs.declared.Geometry.{Geometry}
 use Rattle.geometry.specs.declared.Placed.{Placed}
 use Rattle.geometry.specs.declared.Placed.the-variants as placed
 use Rattle.geometry.specs.declared.Held.{Held}
 use Rattle.geometry.specs.declared.Held.the-variants as held
 
+-- the geometry that placement is asked of
+abbrev pub placesOf : ℕ → ℕ → Geometry
+placesOf N S = record { cards = N; stripes = S; block = 16; records = 1 }
+
 -- refusal 1 of placement: N or S is beyond its limits
 abbrev pub beyondPlaces : ℕ → ℕ → Bool
-beyondPlaces N S = beyond (record { cards = N; stripes = S; block = 16; records = 1 }) none
+beyondPlaces N S = beyond (placesOf N S) none
 
 -- what is refused of block L: N or S beyond its limits, or L not from 0 to n·S-1
 unfoldable pub placeRefusal : ℕ → ℕ → ℕ → ℕ

@@ -1,12 +1,13 @@
 // The array's shape: its numbers by value, their limits, placement both ways, and where blocks stand.
 // Assumes nothing.
-mod limits;
-mod placement;
-pub mod report;
 pub use limits::NONE;
 pub use limits::legal;
 pub use placement::card_at;
 pub use placement::missing_at;
+
+mod limits;
+mod placement;
+pub mod report;
 
 // The numbers an array is opened with: cards (N), stripes (S), bytes in a block (B), request records (K).
 #[repr(C)]
