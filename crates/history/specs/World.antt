@@ -8,7 +8,7 @@ use Rattle.geometry.specs.declared.State.{State}
 use Rattle.record.specs.declared.Record.{Record}
 use Rattle.array.specs.Admission.{admission}
 use Rattle.array.specs.Collection.{collection}
-use Rattle.array.specs.Report.{reporting}
+use Rattle.geometry.specs.Report.{reporting}
 use Rattle.array.specs.Scan.{scanReply}
 use Rattle.array.specs.Stepping.{stepping}
 

@@ -1,0 +1,3 @@
+-- The laws of the calls' definitions.
+pub mod Passed
+pub mod Granted
