@@ -1,6 +1,8 @@
-// The array's shape: its numbers by value, their limits, and placement both ways.
+// The array's shape: its numbers by value, their limits, placement both ways, and where blocks stand.
 // Assumes nothing.
 pub mod report;
+
+mod limits;
 
 // The numbers an array is opened with: cards (N), stripes (S), bytes in a block (B), request records (K).
 #[repr(C)]
