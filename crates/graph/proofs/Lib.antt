@@ -1,0 +1,4 @@
+-- Laws of the graphs, by subject.
+pub mod Graphs
+pub mod Numbers
+pub mod Laws
