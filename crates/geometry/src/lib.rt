@@ -1,8 +1,7 @@
 // The array's shape: its numbers by value, their limits, placement both ways, and where blocks stand.
 // Assumes nothing.
-pub mod report;
-
 mod limits;
+pub mod report;
 
 // The numbers an array is opened with: cards (N), stripes (S), bytes in a block (B), request records (K).
 #[repr(C)]
