@@ -4,3 +4,4 @@ pub mod Placement
 pub mod Placing
 pub mod Answers
 pub mod Store
+pub mod Asked
