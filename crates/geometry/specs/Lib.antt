@@ -5,3 +5,4 @@ pub mod Placing
 pub mod Answers
 pub mod Store
 pub mod Asked
+pub mod Report

@@ -7,6 +7,7 @@ pub use placement::missing_at;
 
 mod limits;
 mod placement;
+pub mod report;
 mod store;
 
 // The numbers an array is opened with: cards (N), stripes (S), bytes in a block (B), request records (K).
