@@ -7,4 +7,5 @@ pub mod Single
 pub mod Grid
 pub mod Apart
 pub mod Bounds
+pub mod Asked
 pub mod Flags

@@ -56,4 +56,67 @@ impl State {
         }
         position < self.cards
     }
+
+    // The bytes of an image.
+    pub fn image_size(self) -> usize
+        ensures { λ r. ⌜ r ≡ imageSizeIn self ⌝ }
+    {
+        if !legal(self.cards, self.stripes, self.block, self.records) {
+            return 0;
+        }
+        let cards = self.cards;
+        let stripes = self.stripes;
+        let block = self.block;
+        let blocks = cards * stripes;
+        let bytes = blocks * block;
+        bytes as usize
+    }
+
+    // The bytes of a work store.
+    pub fn work_size(self) -> usize
+        ensures { λ r. ⌜ r ≡ workSizeIn self ⌝ }
+    {
+        if !legal(self.cards, self.stripes, self.block, self.records) {
+            return 0;
+        }
+        let cards = self.cards;
+        let block = self.block;
+        let records = self.records;
+        let blocks = 2 * cards;
+        let each = blocks * block;
+        let bytes = each * records;
+        bytes as usize
+    }
+
+    // Where the block of a card and a stripe starts in the image.
+    pub fn cell_at(self, card: u64, stripe: u64) -> usize
+        ensures { λ r. ⌜ r ≡ cellIn self card stripe ⌝ }
+    {
+        if !self.in_image(card, stripe) {
+            return 0;
+        }
+        offset(card, self.stripes, stripe, self.block)
+    }
+
+    // Where a record's block to write of a position starts in the work store.
+    pub fn write_at(self, record: u64, position: u64) -> usize
+        ensures { λ r. ⌜ r ≡ writeIn self «record» position ⌝ }
+    {
+        if !self.in_work(record, position) {
+            return 0;
+        }
+        let cards = self.cards;
+        offset(record, 2 * cards, position, self.block)
+    }
+
+    // Where a record's block read of a position starts in the work store.
+    pub fn read_at(self, record: u64, position: u64) -> usize
+        ensures { λ r. ⌜ r ≡ readIn self «record» position ⌝ }
+    {
+        if !self.in_work(record, position) {
+            return 0;
+        }
+        let cards = self.cards;
+        offset(record, 2 * cards, cards + position, self.block)
+    }
 }
