@@ -4,4 +4,6 @@ pub mod Granted
 pub mod Frames
 pub mod Steps
 pub mod Rank
+pub mod Turns
+pub mod Units
 pub mod Kept

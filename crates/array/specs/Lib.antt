@@ -7,3 +7,4 @@ pub mod Stepping
 pub mod Collection
 pub mod Scan
 pub mod Answers
+pub mod Premises

@@ -1,0 +1,19 @@
+-- What the calls' own helpers may take for granted once nothing is refused.
+-- Assumes nothing.
+use Prim.Native.Nat.{ℕ, _<_, _≤_, _^_}
+use mathlib.Core.Bool.{true}
+use mathlib.Core.List.{List}
+use mathlib.Core.Path.{_≡_}
+use lib.ListN.{length}
+use Rattle.geometry.specs.Store.{legalState, workSize, imageSize}
+use Rattle.geometry.specs.declared.State.{State}
+use Rattle.record.specs.Life.{unitsOf}
+use Rattle.array.specs.Lent.{unitBytes}
+
+-- a record of the table, a legal mask, and the work store: the units of the mask have room in these bytes
+pub record Keeping (st : State) (i mask : ℕ) (units work : List ℕ) : Type 0 where
+  pub limits : legalState st ≡ true
+  pub record-below : i < st .records
+  pub units-only : mask < 2 ^ unitsOf st
+  pub work-right : length work ≡ workSize (st .cards) (st .block) (st .records)
+  pub room : unitBytes st mask ≤ length units
