@@ -1,11 +1,11 @@
 -- What a state answers of its sizes and blocks, for a state within its limits: the right size and place, and no byte past the end.
 -- Assumes nothing.
 use Prim.Native.Nat.{ℕ, _+_, _≤_, _<_}
-use mathlib.Core.Bool.{Bool, true, false, cond, not, _&&_}
-use mathlib.Core.List.{List}
-use mathlib.Core.Path.{_≡_, ap, _∙_}
+use mathlib.Core.Bool.{Bool, true, false, cond, not, _&&_, Bool·not-not}
+use mathlib.Core.List.{List, []}
+use mathlib.Core.Path.{_≡_, refl, ap, _∙_}
 use native.Mathlib.Omega.{arith}
-use lib.Dec.{ltb}
+use lib.Dec.{ltb, eqb}
 use lib.ListN.{length}
 use borrow.Author.Tests.{ltb-true, lt-ltb, eq-eqb}
 use Rattle.terms.specs.Lists.{part}
@@ -104,3 +104,29 @@ module _ (st : State) where
     pub readPart-is : (work : List ℕ) → workWrong st work ≡ false → readPart st r j work ≡ part (readAt (st .cards) (st .block) r j) (st .block) work
     unfolding readPart
     readPart-is work e = simp (is-in-work r j p, e)
+
+-- a part, by the tests that the code makes: that the block is there, and the length
+tested : (there : Bool) (whole size at place block : ℕ) (l : List ℕ)
+    → (there ≡ true → (whole ≡ size) × (at ≡ place))
+    → cond (there && eqb (length l) whole) (part at block l) [] ≡ cond (there && not (not (eqb (length l) size))) (part place block l) []
+tested false whole size at place block l e = refl
+tested true whole size at place block l e = let (a, b) = e refl in simp (a, b, Bool·not-not)
+
+module _ (st : State) where
+  pub cellPart-asked : (c s : ℕ) (image : List ℕ) → cond (inImage st c s && eqb (length image) (imageSizeIn st)) (part (cellIn st c s) (st .block) image) [] ≡ cellPart st c s image
+  unfolding cellPart imageWrong
+  cellPart-asked c s image =
+      tested (inImage st c s) _ _ _ _ _ image
+      (λ e. let p = in-image st c s e in (imageSizeIn-is st (p .bounds), cellIn-is st c s p))
+
+  pub writePart-asked : (r j : ℕ) (work : List ℕ) → cond (inWork st r j && eqb (length work) (workSizeIn st)) (part (writeIn st r j) (st .block) work) [] ≡ writePart st r j work
+  unfolding writePart workWrong
+  writePart-asked r j work =
+      tested (inWork st r j) _ _ _ _ _ work
+      (λ e. let p = in-work st r j e in (workSizeIn-is st (p .bounds), writeIn-is st r j p))
+
+  pub readPart-asked : (r j : ℕ) (work : List ℕ) → cond (inWork st r j && eqb (length work) (workSizeIn st)) (part (readIn st r j) (st .block) work) [] ≡ readPart st r j work
+  unfolding readPart workWrong
+  readPart-asked r j work =
+      tested (inWork st r j) _ _ _ _ _ work
+      (λ e. let p = in-work st r j e in (workSizeIn-is st (p .bounds), readIn-is st r j p))

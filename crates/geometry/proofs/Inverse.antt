@@ -5,13 +5,13 @@ use mathlib.Core.Bool.{true, false}
 use mathlib.Core.Logic.{_⊎_, inl, inr}
 use mathlib.Core.Path.{_≡_, ap, sym, _∙_}
 use native.Mathlib.Decide.{decLt, ℕ-discrete}
-use native.Mathlib.Nat.{lt-of-le-of-lt, mod-lt, mul-comm, div-lt-iff-lt-mul, div-add-mod}
+use native.Mathlib.Nat.{le-refl, lt-of-le-of-lt, lt-of-lt-of-le, mod-lt, mul-comm, div-lt-iff-lt-mul, div-add-mod}
 use native.Mathlib.Omega.{arith}
 use Rattle.terms.specs.Reply.{Reply, accepted, refused}
 use Rattle.terms.proofs.Rows.{truth}
 use Rattle.geometry.specs.Answers.{beyondPlaces, placeReply, blockAtReply}
 use Rattle.geometry.specs.Placement.{stripeOf, unitOf, cardOf, blockOf, positionOf}
-use Rattle.geometry.proofs.Answered.{places-bounds, place-beyond, place-range, place-found, block-at-beyond, block-at-no-card, block-at-no-stripe, block-at-parity, block-at-found}
+use Rattle.geometry.proofs.Answered.{places-bounds, blocks-few, place-beyond, place-range, place-found, block-at-beyond, block-at-no-card, block-at-no-stripe, block-at-parity, block-at-found}
 use Rattle.geometry.proofs.Grid.{grid-inside, grid-row, grid-column}
 use Rattle.geometry.proofs.Places.{cardAt-below, positionOf-below, positionOf-cardAt, cardAt-positionOf}
 
@@ -96,3 +96,15 @@ module _ (N S : ℕ) where
       let place : unitOf N L ≡ p = ap (λ (k : ℕ). k % n) number ∙ grid-column n s p unit in
       let below : L < n * S = omega (arith, number, grid-inside n S s p (h .stripe) unit) in
       place-found N S L (h .within) below ∙ rw (stripe, place, cardAt-positionOf N cards s c (h .card))
+
+  -- the values of an accepted answer are small: a card is below 8, a stripe below 1,024, a block number below 7,168
+  pub placed-small : (L c s : ℕ) → placeReply N S L ≡ accepted c s → (c < 8) × (s < 1024)
+  placed-small L c s e =
+      let h = holds c s L (place-back L c s e) in
+      let b = places-bounds N S (h .within) in
+      (lt-of-lt-of-le (h .card) (b .cards-high), lt-of-lt-of-le (h .stripe) (b .stripes-high))
+
+  pub held-small : (c s L : ℕ) → blockAtReply N S c s ≡ accepted 0 L → L < 7168
+  held-small c s L e =
+      let f = found L c s (block-at-back c s L e) in
+      lt-of-lt-of-le (f .below) (blocks-few N S (f .within) S (le-refl S))

@@ -6,6 +6,7 @@ pub use placement::card_at;
 pub use placement::missing_at;
 
 mod limits;
+mod parts;
 mod placement;
 pub mod report;
 mod store;

@@ -23,9 +23,10 @@ returns-2 c =
 returns-3 : tie.Need-returns-3
 unfolding inWork
 returns-3 c =
-    let two = c .before in
-    let one = two .before .before in
-    simp (holds (one .before .legal .ensures) (one .if1 .left), lt-ltb _ _ (two .if2 .left))
+    simp (
+      holds (c .before .before .before .before .legal .ensures) (c .before .before .before .if1 .left),
+      lt-ltb _ _ (c .before .if2 .left),
+    )
 
 pub in-work-spec : {M : Type 1} → statement M
 in-work-spec = tie.close (tie.spec legal-requires returns returns-2 returns-3)
