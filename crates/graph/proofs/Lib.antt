@@ -4,3 +4,4 @@ pub mod Numbers
 pub mod Laws
 pub mod Shifts
 pub mod Sets
+pub mod StepSets

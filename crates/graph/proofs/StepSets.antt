@@ -1,0 +1,102 @@
+-- The sets of positions that a graph reads and writes, as the code makes them from the mask.
+-- Assumes nothing.
+use Prim.Native.Nat.{ℕ, _+_, _-_, _*_, _^_, _≤_, _<_}
+use mathlib.Core.Bool.{Bool, true, false, not, _&&_, _||_, and-true, or-true, or-false}
+use mathlib.Core.Logic.{_⊎_, ⊎-elim}
+use mathlib.Core.Path.{_≡_, refl, sym, ap, _∙_}
+use native.Mathlib.Nat.{lt-of-le-of-lt, mul-comm}
+use native.Mathlib.Omega.{arith}
+use lib.Bits.{bitAnd, and-le-r}
+use lib.Dec.{ltb, leb, eqb}
+use lib.Pow.{pow-pos, pow-lt, pow-add, ones-lt}
+use borrow.Author.Tests.{eq-eqb, ne-eqb, le-leb, lt-ltb, le-ltb}
+use Rattle.terms.proofs.Bits.{bit-beyond, bit-full, bit-rest, bit-and, bit-add-same, bit-add-other, bit-setOf, setOf-bound, is-setOf, add-bound}
+use Rattle.terms.proofs.Rows.{truth}
+use Rattle.terms.proofs.Sets.{below-suc}
+use Rattle.terms.specs.Sets.{bit, setOf}
+use Rattle.graph.specs.Steps.{masked, unmasked}
+use Rattle.graph.proofs.Sets.{bit-one, setOf-cong}
+
+pub pow-next : (n : ℕ) → 2 ^ (n + 1) ≡ 2 * 2 ^ n
+pow-next n = pow-add 2 n 1 ∙ mul-comm (2 ^ n) 2
+
+-- a position is a unit or is n, parity
+pub position : {X : Type 0} (n i : ℕ) → i < n + 1 → (i < n → X) → (i ≡ n → X) → X
+position n i h f g = ⊎-elim f g (below-suc i n (omega arith))
+
+module _ (n mask : ℕ) where
+  pub masked-unit : (i : ℕ) → i < n → masked n mask i ≡ bit i mask
+  unfolding masked
+  masked-unit i h = rw (lt-ltb i n h)
+
+  pub masked-parity : masked n mask n ≡ false
+  unfolding masked
+  masked-parity = rw (le-ltb n n (omega arith))
+
+  pub unmasked-unit : (i : ℕ) → i < n → unmasked n mask i ≡ not (bit i mask)
+  unfolding unmasked
+  unmasked-unit i h = rw (lt-ltb i n h)
+
+  pub unmasked-parity : unmasked n mask n ≡ false
+  unfolding unmasked
+  unmasked-parity = rw (le-ltb n n (omega arith))
+
+  -- the masked units
+  masked-low : bitAnd mask (2 ^ n - 1) < 2 ^ n
+  masked-low = lt-of-le-of-lt (and-le-r mask (2 ^ n - 1)) (ones-lt n)
+
+  pub masked-is : bitAnd mask (2 ^ n - 1) ≡ setOf (n + 1) (masked n mask)
+  masked-is =
+      is-setOf (n + 1) (bitAnd mask (2 ^ n - 1)) (masked n mask) (omega (arith, masked-low, pow-next n))
+      (λ i h.
+      position n i h
+      (λ l. bit-and i mask (2 ^ n - 1) ∙ rw (bit-full n i l, masked-unit i l) (and-true (bit i mask)))
+      (λ e. rw e (bit-beyond n (bitAnd mask (2 ^ n - 1)) n masked-low (omega arith) ∙ sym masked-parity)))
+
+  pub masked-bound : setOf (n + 1) (masked n mask) < 2 ^ n
+  masked-bound = rw (← masked-is) masked-low
+
+  -- the units outside the mask
+  pub unmasked-is : 2 ^ n - 1 - setOf (n + 1) (masked n mask) ≡ setOf (n + 1) (unmasked n mask)
+  unmasked-is =
+      let low : 2 ^ n - 1 - setOf (n + 1) (masked n mask) < 2 ^ n = omega (arith, pow-pos n) in
+      is-setOf (n + 1) (2 ^ n - 1 - setOf (n + 1) (masked n mask)) (unmasked n mask) (omega (arith, pow-next n))
+      (λ i h.
+      position n i h
+      (λ l.
+      bit-rest n (setOf (n + 1) (masked n mask)) i masked-bound l
+      ∙ ap not (bit-setOf (n + 1) (masked n mask) i h ∙ masked-unit i l)
+      ∙ sym (unmasked-unit i l))
+      (λ e. rw e (bit-beyond n (2 ^ n - 1 - setOf (n + 1) (masked n mask)) n low (omega arith) ∙ sym unmasked-parity)))
+
+  -- the masked units and parity
+  pub masked-and-parity-is : setOf (n + 1) (masked n mask) + 2 ^ n ≡ setOf (n + 1) (λ p. masked n mask p || eqb p n)
+  masked-and-parity-is =
+      let clear : bit n (setOf (n + 1) (masked n mask)) ≡ false =
+      bit-beyond n (setOf (n + 1) (masked n mask)) n masked-bound (omega arith) in
+      is-setOf (n + 1) (setOf (n + 1) (masked n mask) + 2 ^ n) (λ p. masked n mask p || eqb p n)
+      (omega (arith, pow-next n, masked-bound))
+      (λ i h.
+      position n i h
+      (λ l.
+      bit-add-other n (setOf (n + 1) (masked n mask)) i clear (λ q. omega arith)
+      ∙ bit-setOf (n + 1) (masked n mask) i h
+      ∙ rw (ne-eqb i n (λ q. omega arith)) (sym (or-false (masked n mask i))))
+      (λ e. rw (e, eq-eqb n n refl) (bit-add-same n (setOf (n + 1) (masked n mask)) clear ∙ sym (or-true (masked n mask n)))))
+
+-- every position but x
+pub present-is : (n x : ℕ) → x ≤ n → 2 ^ (n + 1) - 1 - 2 ^ x ≡ setOf (n + 1) (λ p. not (eqb p x))
+present-is n x h =
+    is-setOf (n + 1) (2 ^ (n + 1) - 1 - 2 ^ x) (λ p. not (eqb p x)) (omega (arith, pow-pos (n + 1)))
+    (λ i l. bit-rest (n + 1) (2 ^ x) i (pow-lt (omega arith)) l ∙ ap not (bit-one x i))
+
+pub present-all : (n x : ℕ) → n < x → 2 ^ (n + 1) - 1 ≡ setOf (n + 1) (λ p. not (eqb p x))
+present-all n x h =
+    is-setOf (n + 1) (2 ^ (n + 1) - 1) (λ p. not (eqb p x)) (ones-lt (n + 1))
+    (λ i l. bit-full (n + 1) i l ∙ sym (ap not (ne-eqb i x (λ q. omega arith))))
+
+-- every position
+pub all-positions : (n : ℕ) → 2 ^ (n + 1) - 1 ≡ setOf (n + 1) (λ p. leb p n)
+all-positions n =
+    is-setOf (n + 1) (2 ^ (n + 1) - 1) (λ p. leb p n) (ones-lt (n + 1))
+    (λ i l. bit-full (n + 1) i l ∙ sym (le-leb i n (omega arith)))

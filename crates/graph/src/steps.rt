@@ -1,0 +1,137 @@
+// The steps of each graph. A set of positions or of step numbers is the bits of a number.
+ghost use mathlib.Core.Bool.{cond, not, _&&_, _||_};
+ghost use mathlib.Core.Path.{_≡_};
+ghost use Prim.Native.Nat.{_+_, _-_, _^_, _≤_};
+ghost use lib.Dec.{eqb};
+ghost use Rattle.terms.specs.Sets.{setOf};
+ghost use Rattle.graph.specs.Asked.{fewUnits, actionStep, stepSet};
+ghost use Rattle.graph.specs.Steps.{stepOf, masked, unmasked, readBase, reads, sums, writeBase, writes};
+
+// What a step does: reads a position, is the exclusive or, writes a position; nothing where its number is no step's.
+pub enum Action {
+    Read(u64),
+    Sum,
+    Write(u64),
+    Nothing,
+}
+
+// What step k does.
+pub fn step_of(n: u64, k: u64) -> Action
+    ensures { λ r. ⌜ actionStep r ≡ stepOf n k ⌝ }
+{
+    if k <= n {
+        return Action::Read(k);
+    }
+    let past = k - n - 1;
+    if past == 0 {
+        return Action::Sum;
+    }
+    if past - 1 <= n {
+        return Action::Write(past - 1);
+    }
+    Action::Nothing
+}
+
+// The set of k alone.
+fn only(k: u64) -> u64
+    requires { ⌜ k ≤ 63 ⌝ }
+    ensures { λ r. ⌜ r ≡ 2 ^ k ⌝ }
+{
+    1 << k
+}
+
+// The set of all numbers below n.
+fn below(n: u64) -> u64
+    requires { ⌜ n ≤ 63 ⌝ }
+    ensures { λ r. ⌜ r ≡ 2 ^ n - 1 ⌝ }
+{
+    (1 << n) - 1
+}
+
+// The masked units.
+fn masked_set(n: u64, mask: u64) -> u64
+    requires { ⌜ n ≤ 7 ⌝ }
+    ensures { λ r. ⌜ r ≡ setOf (n + 1) (masked n mask) ⌝ }
+{
+    mask & below(n)
+}
+
+// The units outside the mask.
+fn unmasked_set(n: u64, mask: u64) -> u64
+    requires { ⌜ n ≤ 7 ⌝ }
+    ensures { λ r. ⌜ r ≡ setOf (n + 1) (unmasked n mask) ⌝ }
+{
+    below(n) - masked_set(n, mask)
+}
+
+// The masked units and parity.
+fn masked_and_parity(n: u64, mask: u64) -> u64
+    requires { ⌜ n ≤ 7 ⌝ }
+    ensures { λ r. ⌜ r ≡ setOf (n + 1) (λ p. masked n mask p || eqb p n) ⌝ }
+{
+    masked_set(n, mask) + only(n)
+}
+
+// Every position but x.
+fn present(n: u64, x: u64) -> u64
+    requires { ⌜ n ≤ 7 ⌝ }
+    ensures { λ r. ⌜ r ≡ setOf (n + 1) (λ p. not (eqb p x)) ⌝ }
+{
+    if x > n {
+        return below(n + 1);
+    }
+    below(n + 1) - only(x)
+}
+
+// The positions that are to be read, x among them.
+fn read_base(n: u64, g: u64, mask: u64) -> u64
+    requires { ⌜ n ≤ 7 ⌝ }
+    ensures { λ r. ⌜ r ≡ setOf (n + 1) (readBase n g mask) ⌝ }
+{
+    if g == 1 {
+        return masked_set(n, mask);
+    }
+    if g == 2 {
+        return below(n + 1);
+    }
+    if g == 3 {
+        return masked_and_parity(n, mask);
+    }
+    if g == 4 {
+        return unmasked_set(n, mask);
+    }
+    0
+}
+
+// The positions that are to be written, x among them.
+fn write_base(n: u64, g: u64, mask: u64) -> u64
+    requires { ⌜ n ≤ 7 ⌝ }
+    ensures { λ r. ⌜ r ≡ setOf (n + 1) (writeBase n g mask) ⌝ }
+{
+    if g < 3 {
+        return 0;
+    }
+    if g < 6 {
+        return masked_and_parity(n, mask);
+    }
+    if g == 6 {
+        return masked_set(n, mask);
+    }
+    0
+}
+
+// The positions that the graph reads.
+fn read_set(n: u64, g: u64, mask: u64, x: u64) -> u64
+    requires { ⌜ n ≤ 7 ⌝ }
+    ensures { λ r. ⌜ r ≡ setOf (n + 1) (reads n g mask x) ⌝ }
+{
+    read_base(n, g, mask) & present(n, x)
+}
+
+// The positions that it writes.
+fn write_set(n: u64, g: u64, mask: u64, x: u64) -> u64
+    requires { ⌜ n ≤ 7 ⌝ }
+    ensures { λ r. ⌜ r ≡ setOf (n + 1) (writes n g mask x) ⌝ }
+{
+    write_base(n, g, mask) & present(n, x)
+}
