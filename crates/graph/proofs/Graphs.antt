@@ -1,12 +1,12 @@
 -- A number is one of the six graphs, or none of them.
 -- Assumes nothing.
 use Prim.Native.Nat.{ℕ, zero, suc, _<_, _≤_}
-use mathlib.Core.Bool.{false, _||_}
-use mathlib.Core.Path.{_≡_, refl}
+use mathlib.Core.Bool.{true, false, _||_}
+use mathlib.Core.Path.{_≡_, refl, sym, _∙_}
 use native.Mathlib.Omega.{arith}
-use lib.Dec.{leb, eqb}
-use borrow.Author.Tests.{ne-eqb}
-use Rattle.graph.specs.Steps.{byGraph, masked, unmasked, readBase, writeBase}
+use lib.Dec.{ltb, leb, eqb}
+use borrow.Author.Tests.{ne-eqb, le-ltb}
+use Rattle.graph.specs.Steps.{byGraph, masked, unmasked, readBase, sums, writeBase}
 
 pub data Graph : ℕ → Type 0 where
   plain : Graph 1
@@ -74,3 +74,26 @@ writes-mid n _ mask p large l u = refl
 writes-mid n _ mask p failed l u = absurd (omega arith)
 writes-mid n _ mask p nought l u = absurd (omega arith)
 writes-mid n g mask p (above h) l u = absurd (omega arith)
+
+-- the graphs with an exclusive or are 2 to 5
+pub sums-early : (g : ℕ) → Graph g → g < 2 → sums g ≡ false
+unfolding sums byGraph
+sums-early _ plain l = refl
+sums-early _ degraded l = absurd (omega arith)
+sums-early _ small l = absurd (omega arith)
+sums-early _ reconstruct l = absurd (omega arith)
+sums-early _ large l = absurd (omega arith)
+sums-early _ failed l = absurd (omega arith)
+sums-early _ nought l = refl
+sums-early g (above h) l = absurd (omega arith)
+
+pub sums-late : (g : ℕ) → Graph g → 2 ≤ g → sums g ≡ ltb g 6
+unfolding sums byGraph
+sums-late _ plain l = absurd (omega arith)
+sums-late _ degraded l = refl
+sums-late _ small l = refl
+sums-late _ reconstruct l = refl
+sums-late _ large l = refl
+sums-late _ failed l = refl
+sums-late _ nought l = absurd (omega arith)
+sums-late g (above h) l = byGraph-above g false true true true true false false h ∙ sym (le-ltb g 6 (omega arith))

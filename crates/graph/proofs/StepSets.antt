@@ -1,24 +1,24 @@
 -- The sets of positions that a graph reads and writes, as the code makes them from the mask.
 -- Assumes nothing.
-use Prim.Native.Nat.{ℕ, _+_, _-_, _*_, _^_, _≤_, _<_}
-use mathlib.Core.Bool.{Bool, true, false, not, _&&_, _||_, and-true, or-true, or-false}
+use Prim.Native.Nat.{ℕ, _+_, _-_, _*_, _%_, _^_, _≤_, _<_}
+use mathlib.Core.Bool.{Bool, cond, true, false, not, _&&_, _||_, and-true, or-true, or-false}
 use mathlib.Core.Logic.{_⊎_, ⊎-elim}
 use mathlib.Core.Path.{_≡_, refl, sym, ap, _∙_}
-use native.Mathlib.Nat.{lt-of-le-of-lt, mul-comm}
+use native.Mathlib.Nat.{lt-of-le-of-lt, lt-of-lt-of-le}
 use native.Mathlib.Omega.{arith}
+use lib.Arith.{digits-lt}
 use lib.Bits.{bitAnd, and-le-r}
 use lib.Dec.{ltb, leb, eqb}
-use lib.Pow.{pow-pos, pow-lt, pow-add, ones-lt}
+use lib.Pow.{pow-pos, pow-lt, pow-mono, pow-add, shl-exact, ones-lt}
 use borrow.Author.Tests.{eq-eqb, ne-eqb, le-leb, lt-ltb, le-ltb}
-use Rattle.terms.proofs.Bits.{bit-beyond, bit-full, bit-rest, bit-and, bit-add-same, bit-add-other, bit-setOf, setOf-bound, is-setOf, add-bound}
+use Rattle.terms.proofs.Bits.{bit-beyond, bit-full, bit-rest, bit-low, bit-high, bit-and, bit-add-same, bit-add-other, bit-setOf, setOf-bound, is-setOf, add-bound}
 use Rattle.terms.proofs.Rows.{truth}
 use Rattle.terms.proofs.Sets.{below-suc}
 use Rattle.terms.specs.Sets.{bit, setOf}
-use Rattle.graph.specs.Steps.{masked, unmasked}
-use Rattle.graph.proofs.Sets.{bit-one, setOf-cong}
-
-pub pow-next : (n : ℕ) → 2 ^ (n + 1) ≡ 2 * 2 ^ n
-pow-next n = pow-add 2 n 1 ∙ mul-comm (2 ^ n) 2
+use Rattle.graph.specs.Asked.{stepSet}
+use Rattle.graph.specs.Steps.{masked, unmasked, reads, sums, writes, member, stepOf, stepNumbers}
+use Rattle.graph.proofs.Numbers.{Numbered, reading, summing, writing, numbered, stepOf-read, stepOf-sum, stepOf-write}
+use Rattle.graph.proofs.Sets.{pow-next, bit-one, flag-bound, flag-below, flag-at}
 
 -- a position is a unit or is n, parity
 pub position : {X : Type 0} (n i : ℕ) → i < n + 1 → (i < n → X) → (i ≡ n → X) → X
@@ -100,3 +100,58 @@ pub all-positions : (n : ℕ) → 2 ^ (n + 1) - 1 ≡ setOf (n + 1) (λ p. leb p
 all-positions n =
     is-setOf (n + 1) (2 ^ (n + 1) - 1) (λ p. leb p n) (ones-lt (n + 1))
     (λ i l. bit-full (n + 1) i l ∙ sym (le-leb i n (omega arith)))
+
+-- ---- the steps of a graph, from its three sets
+
+-- the reads and the exclusive or
+abbrev pub low : ℕ → ℕ → ℕ → ℕ → ℕ
+low n g mask x = setOf (n + 1) (reads n g mask x) + cond (sums g) (2 ^ (n + 1)) 0
+
+module _ (n g mask x : ℕ) where
+  pub low-bound : low n g mask x < 2 ^ (n + 2)
+  low-bound =
+      let e : n + 1 + 1 ≡ n + 2 = omega arith in
+      rw e at (flag-bound (n + 1) (setOf (n + 1) (reads n g mask x)) (sums g) (setOf-bound (n + 1) (reads n g mask x)))
+
+  -- all three, the writes above
+  all : ℕ
+  all = setOf (n + 1) (writes n g mask x) * 2 ^ (n + 2) + low n g mask x
+
+  all-bound : all < 2 ^ stepNumbers n
+  unfolding all
+  all-bound =
+      let e : n + 1 + (n + 2) ≡ stepNumbers n = omega arith in
+      rw (← e, pow-add 2 (n + 1) (n + 2)) (digits-lt (setOf-bound (n + 1) (writes n g mask x)) low-bound)
+
+  all-at : (k : ℕ) → Numbered n k → bit k all ≡ member n g mask x (stepOf n k)
+  unfolding all member
+  all-at k (reading p h e) =
+      rw (e, stepOf-read n p h)
+      (bit-low (n + 2) (setOf (n + 1) (writes n g mask x)) (low n g mask x) p (omega arith)
+      ∙ flag-below (n + 1) (setOf (n + 1) (reads n g mask x)) p (sums g) (setOf-bound (n + 1) (reads n g mask x)) (omega arith)
+      ∙ bit-setOf (n + 1) (reads n g mask x) p (omega arith))
+  all-at k (summing e) =
+      rw (e, stepOf-sum n)
+      (bit-low (n + 2) (setOf (n + 1) (writes n g mask x)) (low n g mask x) (n + 1) (omega arith)
+      ∙ flag-at (n + 1) (setOf (n + 1) (reads n g mask x)) (sums g) (setOf-bound (n + 1) (reads n g mask x)))
+  all-at k (writing p h e) =
+      rw (e, stepOf-write n p h)
+      (bit-high (n + 2) (setOf (n + 1) (writes n g mask x)) (low n g mask x) p low-bound
+      ∙ bit-setOf (n + 1) (writes n g mask x) p (omega arith))
+
+  pub steps-are : setOf (n + 1) (writes n g mask x) * 2 ^ (n + 2) + low n g mask x ≡ stepSet n g mask x
+  unfolding all stepSet
+  steps-are =
+      is-setOf (stepNumbers n) all (λ k. member n g mask x (stepOf n k)) all-bound (λ k h. all-at k (numbered n k h))
+
+  -- with at most 7 units all fit a word
+  pub low-fits : n ≤ 7 → low n g mask x < 2 ^ 9
+  low-fits h = lt-of-lt-of-le low-bound (pow-mono {i = n + 2} {j = 9} (omega arith))
+
+  pub writes-fit : n ≤ 7 → setOf (n + 1) (writes n g mask x) * 2 ^ (n + 2) % 18446744073709551616
+      ≡ setOf (n + 1) (writes n g mask x) * 2 ^ (n + 2)
+  writes-fit h = shl-exact (n + 1) (n + 2) 64 (setOf-bound (n + 1) (writes n g mask x)) (omega arith)
+
+  pub steps-fit : n ≤ 7 → setOf (n + 1) (writes n g mask x) * 2 ^ (n + 2) + low n g mask x < 2 ^ 17
+  unfolding all
+  steps-fit h = lt-of-lt-of-le all-bound (pow-mono {i = stepNumbers n} {j = 17} (omega arith))

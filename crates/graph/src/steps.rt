@@ -135,3 +135,33 @@ fn write_set(n: u64, g: u64, mask: u64, x: u64) -> u64
 {
     write_base(n, g, mask) & present(n, x)
 }
+
+// There is an exclusive or.
+fn sums(g: u64) -> bool
+    ensures { λ r. ⌜ r ≡ sums g ⌝ }
+{
+    if g < 2 {
+        return false;
+    }
+    g < 6
+}
+
+// The exclusive or's number, where there is one.
+fn sum_set(n: u64, g: u64) -> u64
+    requires { ⌜ n ≤ 7 ⌝ }
+    ensures { λ r. ⌜ r ≡ cond (sums g) (2 ^ (n + 1)) 0 ⌝ }
+{
+    if sums(g) {
+        return only(n + 1);
+    }
+    0
+}
+
+// The steps of the graph.
+fn step_set(n: u64, g: u64, mask: u64, x: u64) -> u64
+    requires { ⌜ n ≤ 7 ⌝ }
+    ensures { λ r. ⌜ r ≡ stepSet n g mask x ⌝ }
+{
+    let low = read_set(n, g, mask, x) + sum_set(n, g);
+    (write_set(n, g, mask, x) << (n + 2)) + low
+}
