@@ -18,7 +18,7 @@ use Rattle.terms.specs.Sets.{bit, setOf}
 use Rattle.graph.specs.Asked.{stepSet}
 use Rattle.graph.specs.Steps.{masked, unmasked, reads, sums, writes, member, stepOf, stepNumbers}
 use Rattle.graph.proofs.Numbers.{Numbered, reading, summing, writing, numbered, stepOf-read, stepOf-sum, stepOf-write}
-use Rattle.graph.proofs.Sets.{pow-next, bit-one, flag-bound, flag-below, flag-at}
+use Rattle.graph.proofs.Rules.{pow-next, bit-one, flag-bound, flag-below, flag-at}
 
 -- a position is a unit or is n, parity
 pub position : {X : Type 0} (n i : ℕ) → i < n + 1 → (i < n → X) → (i ≡ n → X) → X

@@ -5,9 +5,9 @@ use mathlib.Core.Bool.{not}
 use borrow.Author.Needs.{needs}
 use lib.Dec.{eqb}
 use Rattle.graph.specs.Steps.{writeBase, writes}
-use Rattle.graph.proofs.Sets.{setOf-and}
-use Rattle.graph.proofs.steps.write_set.Statement.{statement}
-use Rattle.graph.proofs.steps.write_set.Tie as tie
+use Rattle.graph.proofs.Rules.{setOf-and}
+use Rattle.graph.proofs.sets.write_set.Statement.{statement}
+use Rattle.graph.proofs.sets.write_set.Tie as tie
 
 write-base-requires : tie.Need-write-base-requires
 write-base-requires c κs = search needs

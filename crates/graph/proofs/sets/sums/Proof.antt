@@ -2,8 +2,8 @@
 -- Assumes nothing.
 use mathlib.Core.Path.{sym}
 use Rattle.graph.proofs.Graphs.{graph, sums-early, sums-late}
-use Rattle.graph.proofs.steps.sums.Statement.{statement}
-use Rattle.graph.proofs.steps.sums.Tie as tie
+use Rattle.graph.proofs.sets.sums.Statement.{statement}
+use Rattle.graph.proofs.sets.sums.Tie as tie
 
 returns : tie.Need-returns
 returns c = sym (sums-early (c .before .args .g) (graph (c .before .args .g)) (c .if1 .taken))

@@ -2,9 +2,9 @@
 -- Assumes nothing.
 use native.Mathlib.Omega.{arith}
 use borrow.Author.Needs.{needs}
-use Rattle.graph.proofs.StepSets.{masked-bound, unmasked-is}
-use Rattle.graph.proofs.steps.unmasked_set.Statement.{statement}
-use Rattle.graph.proofs.steps.unmasked_set.Tie as tie
+use Rattle.graph.proofs.Positions.{masked-bound, unmasked-is}
+use Rattle.graph.proofs.sets.unmasked_set.Statement.{statement}
+use Rattle.graph.proofs.sets.unmasked_set.Tie as tie
 
 below-requires : tie.Need-below-requires
 below-requires c κs = search needs

@@ -5,9 +5,9 @@ use mathlib.Core.Path.{_∙_}
 use native.Mathlib.Omega.{arith}
 use borrow.Author.Needs.{needs}
 use lib.Pow.{pow-lt}
-use Rattle.graph.proofs.StepSets.{present-is, present-all}
-use Rattle.graph.proofs.steps.present.Statement.{statement}
-use Rattle.graph.proofs.steps.present.Tie as tie
+use Rattle.graph.proofs.Positions.{present-is, present-all}
+use Rattle.graph.proofs.sets.present.Statement.{statement}
+use Rattle.graph.proofs.sets.present.Tie as tie
 
 add-below : tie.Need-add-below
 add-below c = search needs

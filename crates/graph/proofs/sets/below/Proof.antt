@@ -2,8 +2,8 @@
 -- Assumes nothing.
 use borrow.Author.Needs.{needs}
 use Rattle.graph.proofs.Shifts.{one-shl, one-shl-pos}
-use Rattle.graph.proofs.steps.below.Statement.{statement}
-use Rattle.graph.proofs.steps.below.Tie as tie
+use Rattle.graph.proofs.sets.below.Statement.{statement}
+use Rattle.graph.proofs.sets.below.Tie as tie
 
 shl-result : tie.Need-shl-result
 shl-result c = search needs

@@ -3,9 +3,9 @@
 use Prim.Native.Nat.{_≤_}
 use native.Mathlib.Omega.{arith}
 use borrow.Author.Needs.{needs}
-use Rattle.graph.proofs.StepSets.{low-fits, writes-fit, steps-fit, steps-are}
-use Rattle.graph.proofs.steps.step_set.Statement.{statement}
-use Rattle.graph.proofs.steps.step_set.Tie as tie
+use Rattle.graph.proofs.Positions.{low-fits, writes-fit, steps-fit, steps-are}
+use Rattle.graph.proofs.sets.step_set.Statement.{statement}
+use Rattle.graph.proofs.sets.step_set.Tie as tie
 
 -- `step_set` meets its contract: the writes stand above the exclusive or and the reads.
 -- Assumes nothing.

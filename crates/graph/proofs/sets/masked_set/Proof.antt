@@ -1,9 +1,9 @@
 -- `masked_set` meets its contract.
 -- Assumes nothing.
 use borrow.Author.Needs.{needs}
-use Rattle.graph.proofs.StepSets.{masked-is}
-use Rattle.graph.proofs.steps.masked_set.Statement.{statement}
-use Rattle.graph.proofs.steps.masked_set.Tie as tie
+use Rattle.graph.proofs.Positions.{masked-is}
+use Rattle.graph.proofs.sets.masked_set.Statement.{statement}
+use Rattle.graph.proofs.sets.masked_set.Tie as tie
 
 below-requires : tie.Need-below-requires
 below-requires c κs = search needs

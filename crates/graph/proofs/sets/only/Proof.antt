@@ -2,8 +2,8 @@
 -- Assumes nothing.
 use borrow.Author.Needs.{needs}
 use Rattle.graph.proofs.Shifts.{one-shl}
-use Rattle.graph.proofs.steps.only.Statement.{statement}
-use Rattle.graph.proofs.steps.only.Tie as tie
+use Rattle.graph.proofs.sets.only.Statement.{statement}
+use Rattle.graph.proofs.sets.only.Tie as tie
 
 shl-result : tie.Need-shl-result
 shl-result c = search needs

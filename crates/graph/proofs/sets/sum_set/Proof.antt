@@ -2,8 +2,8 @@
 -- Assumes nothing.
 use mathlib.Core.Path.{sym, _∙_}
 use borrow.Author.Needs.{needs}
-use Rattle.graph.proofs.steps.sum_set.Statement.{statement}
-use Rattle.graph.proofs.steps.sum_set.Tie as tie
+use Rattle.graph.proofs.sets.sum_set.Statement.{statement}
+use Rattle.graph.proofs.sets.sum_set.Tie as tie
 
 sums-requires : tie.Need-sums-requires
 sums-requires c κs = search needs

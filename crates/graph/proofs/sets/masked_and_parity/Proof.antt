@@ -4,9 +4,9 @@ use Prim.Native.Nat.{_^_, _≤_}
 use native.Mathlib.Omega.{arith}
 use borrow.Author.Needs.{needs}
 use lib.Pow.{pow-mono}
-use Rattle.graph.proofs.StepSets.{masked-bound, masked-and-parity-is}
-use Rattle.graph.proofs.steps.masked_and_parity.Statement.{statement}
-use Rattle.graph.proofs.steps.masked_and_parity.Tie as tie
+use Rattle.graph.proofs.Positions.{masked-bound, masked-and-parity-is}
+use Rattle.graph.proofs.sets.masked_and_parity.Statement.{statement}
+use Rattle.graph.proofs.sets.masked_and_parity.Tie as tie
 
 -- `masked_and_parity` meets its contract.
 -- Assumes nothing.

@@ -5,10 +5,10 @@ use mathlib.Core.Path.{_∙_, sym}
 use borrow.Author.Needs.{needs}
 use Rattle.graph.specs.Steps.{byGraph, readBase}
 use Rattle.graph.proofs.Graphs.{graph, reads-late}
-use Rattle.graph.proofs.Sets.{setOf-none}
-use Rattle.graph.proofs.StepSets.{all-positions}
-use Rattle.graph.proofs.steps.read_base.Statement.{statement}
-use Rattle.graph.proofs.steps.read_base.Tie as tie
+use Rattle.graph.proofs.Rules.{setOf-none}
+use Rattle.graph.proofs.Positions.{all-positions}
+use Rattle.graph.proofs.sets.read_base.Statement.{statement}
+use Rattle.graph.proofs.sets.read_base.Tie as tie
 
 masked-set-requires : tie.Need-masked-set-requires
 masked-set-requires c κs = search needs

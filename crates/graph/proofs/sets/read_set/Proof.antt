@@ -5,9 +5,9 @@ use mathlib.Core.Bool.{not}
 use borrow.Author.Needs.{needs}
 use lib.Dec.{eqb}
 use Rattle.graph.specs.Steps.{readBase, reads}
-use Rattle.graph.proofs.Sets.{setOf-and}
-use Rattle.graph.proofs.steps.read_set.Statement.{statement}
-use Rattle.graph.proofs.steps.read_set.Tie as tie
+use Rattle.graph.proofs.Rules.{setOf-and}
+use Rattle.graph.proofs.sets.read_set.Statement.{statement}
+use Rattle.graph.proofs.sets.read_set.Tie as tie
 
 read-base-requires : tie.Need-read-base-requires
 read-base-requires c κs = search needs

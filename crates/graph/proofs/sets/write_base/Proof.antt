@@ -8,9 +8,9 @@ use borrow.Author.Needs.{needs}
 use lib.Dec.{eqb}
 use Rattle.graph.specs.Steps.{byGraph, masked, writeBase}
 use Rattle.graph.proofs.Graphs.{graph, byGraph-above, writes-early, writes-mid}
-use Rattle.graph.proofs.Sets.{setOf-none, setOf-cong}
-use Rattle.graph.proofs.steps.write_base.Statement.{statement}
-use Rattle.graph.proofs.steps.write_base.Tie as tie
+use Rattle.graph.proofs.Rules.{setOf-none, setOf-cong}
+use Rattle.graph.proofs.sets.write_base.Statement.{statement}
+use Rattle.graph.proofs.sets.write_base.Tie as tie
 
 returns : tie.Need-returns
 returns c =
