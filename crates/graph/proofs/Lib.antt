@@ -3,4 +3,5 @@ pub mod Graphs
 pub mod Numbers
 pub mod Laws
 pub mod Shifts
-pub mod Sets
+pub mod Rules
+pub mod Positions

@@ -2,3 +2,5 @@
 // a stripe; the mask; x, the position missing (above n: none); g, the graph; done, the done steps; k, a step's number.
 // Assumes nothing.
 pub mod choice;
+mod sets;
+pub mod steps;
