@@ -1,0 +1,6 @@
+-- Why the promise holds, by subject.
+pub mod Bytes
+pub mod Near
+pub mod Tables
+pub mod Places
+pub mod Rows

@@ -1,0 +1,67 @@
+-- What holds of a stripe looks at its working positions and at a request's own blocks of the positions 0 to n, and at nothing else.
+-- Assumes nothing.
+use Prim.Native.Nat.{ℕ, _≤_, _<_}
+use mathlib.Core.Bool.{Bool, true, false}
+use mathlib.Core.Logic.{_⊎_, inl, inr}
+use mathlib.Core.Path.{_≡_, refl, sym, ap, _∙_}
+use native.Mathlib.Omega.{arith}
+use borrow.Author.Tests.{ltb-true}
+use lib.Dec.{ltb}
+use Rattle.terms.specs.Sets.{bit}
+use Rattle.terms.proofs.Rows.{and-left}
+use Rattle.graph.specs.Steps.{masked}
+use Rattle.stripe.specs.Blocks.{Blocks}
+use Rattle.stripe.specs.Group.{Group}
+use Rattle.stripe.specs.Invariant.{Idle, Faithful}
+use Rattle.stripe.specs.Request.{Request}
+
+masked-below : (n mask p : ℕ) → masked n mask p ≡ true → p < n
+unfolding masked
+masked-below n mask p e = ltb-true p n (and-left (ltb p n) (bit p mask) e)
+
+-- the same in every position that counts, x missing
+pub record Near {A : Type 0} (n x : ℕ) (b b′ : Blocks A) : Type 0 where
+  pub same-cell : (p : ℕ) → p ≤ n → ¬ (p ≡ x) → b′ .cell p ≡ b .cell p
+  pub same-got : (p : ℕ) → p ≤ n → b′ .got p ≡ b .got p
+  pub same-new : (p : ℕ) → p ≤ n → b′ .new p ≡ b .new p
+
+module _ (G : Group) (n x : ℕ) where
+  pub idle-near : (R cell cell′ : ℕ → G .carrier) → ((p : ℕ) → p ≤ n → ¬ (p ≡ x) → cell′ p ≡ cell p) → Idle G n x R cell → Idle G n x R cell′
+  idle-near R cell cell′ same i = record { row = i .row; holds = λ p l d. same p l d ∙ i .holds p l d }
+
+  -- the read block of X is one of the stripe's
+  pub faithful-near : (q : Request) (R R′ : ℕ → G .carrier) (b b′ : Blocks (G .carrier)) → (q .graph ≡ 2 → q .missed ≤ n) → Near n x b b′
+      → Faithful G n x q R R′ b → Faithful G n x q R R′ b′
+  faithful-near q R R′ b b′ x-below near f =
+      record {
+        old-row = f .old-row;
+        new-row = f .new-row;
+        read-same = f .read-same;
+        others-same = f .others-same;
+        kept = λ w p m. near .same-new p (omega (arith, masked-below n (q .mask) p m)) ∙ f .kept w p m;
+        read = λ p l d. near .same-got p l ∙ f .read p l d;
+        inferred = λ g d. near .same-got (q .missed) (x-below g) ∙ f .inferred g d;
+        computed = λ g d. near .same-new n (omega arith) ∙ f .computed g d;
+        written = λ p l d e. near .same-cell p l d ∙ f .written p l d e;
+        unwritten = λ p l d e u. near .same-cell p l d ∙ f .unwritten p l d e u;
+      }
+
+  -- none was missing, and now x′ may be
+  pub idle-fails : (x′ : ℕ) (R cell : ℕ → G .carrier) → n < x → Idle G n x R cell → Idle G n x′ R cell
+  idle-fails x′ R cell none i = record { row = i .row; holds = λ p l d. i .holds p l (λ e. omega arith) }
+
+  pub faithful-fails : (x′ : ℕ) (q : Request) (R R′ : ℕ → G .carrier) (b : Blocks (G .carrier)) → n < x
+      → Faithful G n x q R R′ b → Faithful G n x′ q R R′ b
+  faithful-fails x′ q R R′ b none f =
+      record {
+        old-row = f .old-row;
+        new-row = f .new-row;
+        read-same = f .read-same;
+        others-same = f .others-same;
+        kept = f .kept;
+        read = f .read;
+        inferred = f .inferred;
+        computed = f .computed;
+        written = λ p l d e. f .written p l (λ z. omega arith) e;
+        unwritten = λ p l d e u. f .unwritten p l (λ z. omega arith) e u;
+      }
