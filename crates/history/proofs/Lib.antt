@@ -4,3 +4,5 @@ pub mod Near
 pub mod Tables
 pub mod Places
 pub mod Rows
+pub mod Invariant
+pub mod Gather
