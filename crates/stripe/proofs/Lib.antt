@@ -1,0 +1,3 @@
+-- Why a stripe loses nothing, by subject.
+pub mod Sums
+pub mod Chosen
