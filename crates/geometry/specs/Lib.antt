@@ -3,3 +3,4 @@ pub mod Limits
 pub mod Placement
 pub mod Answers
 pub mod Store
+pub mod Report

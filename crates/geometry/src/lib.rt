@@ -1,5 +1,6 @@
 // The array's shape: its numbers by value, their limits, and placement both ways.
 // Assumes nothing.
+pub mod report;
 
 // The numbers an array is opened with: cards (N), stripes (S), bytes in a block (B), request records (K).
 #[repr(C)]
