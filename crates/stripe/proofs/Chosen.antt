@@ -1,8 +1,8 @@
 -- The table of document 01, "Choosing a graph", as evidence: which row chose the graph, and what its tests tell. Proofs go by these rows.
 -- Assumes nothing.
 use Prim.Native.Nat.{ℕ, _-_, _*_, _^_, _≤_, _<_}
-use mathlib.Core.Bool.{Bool, true, false, cond}
-use mathlib.Core.Path.{_≡_, refl, subst}
+use mathlib.Core.Bool.{Bool, true, false, cond, not}
+use mathlib.Core.Path.{_≡_, refl, ap}
 use native.Mathlib.Omega.{arith}
 use lib.Count.{ones}
 use lib.Dec.{ltb, eqb}
@@ -30,7 +30,7 @@ module _ (n mask x : ℕ) where
 
   out-not-in : unitOutIn n mask x ≡ false → unitOut n x ≡ true → unmasked n mask x ≡ true
   unfolding unitOutIn unitOut unmasked
-  out-not-in e h = rw h (rw h at e)
+  out-not-in e h = rw h (ap not (rw h at e))
 
   write-rows : (t1 t2 t3 t4 t5 : Bool) → eqb x n ≡ t1 → allUnits n mask ≡ t2 → unitOutIn n mask x ≡ t3 → unitOut n x ≡ t4
       → ltb (2 * ones mask) n ≡ t5 → Chosen n mask x true (cond t1 6 (cond t2 5 (cond t3 4 (cond t4 3 (cond t5 3 4)))))
