@@ -1,3 +1,4 @@
 -- Why a stripe loses nothing, by subject.
 pub mod Sums
 pub mod Chosen
+pub mod Tally
