@@ -6,3 +6,4 @@ pub mod Admission
 pub mod Stepping
 pub mod Collection
 pub mod Scan
+pub mod Answers
