@@ -2,3 +2,7 @@
 pub mod Sums
 pub mod Chosen
 pub mod Tally
+pub mod Places
+pub mod Done
+pub mod Totals
+pub mod Steps
