@@ -6,3 +6,5 @@ pub mod Places
 pub mod Done
 pub mod Totals
 pub mod Steps
+pub mod Readied
+pub mod Kept

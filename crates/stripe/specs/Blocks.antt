@@ -10,8 +10,8 @@ use Rattle.stripe.specs.Request.{Request}
 
 -- the step reads or writes position p; the exclusive or is on none
 pub data On (p : ℕ) : Step → Type 0 where
-  reading : On p (rd p)
-  writing : On p (wr p)
+  by-read : On p (rd p)
+  by-write : On p (wr p)
 
 -- a stripe's contents, the request's read blocks and its blocks to write, each a function of the position
 pub record Blocks (A : Type 0) : Type 0 where
