@@ -10,6 +10,8 @@ use borrow.Author.Tests.{eqb-true, eqb-false, ltb-true, ltb-false}
 use Rattle.terms.specs.Reply.{firstRow}
 use Rattle.graph.specs.Choice.{unitOut, unitOutIn, allUnits, chooseRead, chooseWrite, choose}
 use Rattle.graph.specs.Steps.{masked, unmasked}
+use Rattle.stripe.specs.Invariant.{Proper}
+use Rattle.stripe.specs.Request.{Request}
 
 -- the graph of a request, write or not, of a mask in a stripe of n units whose position x is missing; above n for none
 pub data Chosen (n mask x : ℕ) : Bool → ℕ → Type 0 where
@@ -52,3 +54,7 @@ module _ (n mask x : ℕ) where
 
   pub chosen-graph : (write : Bool) (g : ℕ) → g ≡ choose n write mask x → Chosen n mask x write g
   chosen-graph write g e = rw e (chosen write)
+
+-- the row that chose a request's graph
+pub row-of : (n x : ℕ) (q : Request) → Proper n x q → Chosen n (q .mask) (q .missed) (q .write) (q .graph)
+row-of n x q P = chosen-graph n (q .mask) (q .missed) (q .write) (q .graph) (P .right-graph)

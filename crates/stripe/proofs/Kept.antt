@@ -19,9 +19,10 @@ use Rattle.stripe.specs.Blocks.{Blocks, On, by-read, by-write, performed
 use Rattle.stripe.specs.Group.{Group, sumTo}
 use Rattle.stripe.specs.Invariant.{Proper, Faithful, Idle, Untouched, isDone}
 use Rattle.stripe.specs.Request.{Request, advanced, begun, chosenAfresh}
+use Rattle.stripe.proofs.Chosen.{row-of}
 use Rattle.stripe.proofs.Readied.{Kind, a-read, a-sum, a-write, Readied, readied}
 use Rattle.stripe.proofs.Places.{writes-what}
-use Rattle.stripe.proofs.Steps.{row-of, read-done, sum-done, write-done}
+use Rattle.stripe.proofs.Steps.{read-done, sum-done, write-done}
 
 module _ (G : Group) (n x : ℕ) (q : Request) (R R′ : ℕ → G .carrier) (b : Blocks (G .carrier))
     (P : Proper n x q)

@@ -8,3 +8,6 @@ pub mod Totals
 pub mod Steps
 pub mod Readied
 pub mod Kept
+pub mod Sizes
+pub mod Afresh
+pub mod Counts

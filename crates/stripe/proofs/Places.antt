@@ -169,13 +169,14 @@ module _ (n mask x p : ℕ) where
   unmasked-read (small-none e e′) f h u = absurd (not-new u h)
   unmasked-read (reconstruct-none e) f h u = refl
 
--- graph 3 with a position missing: a unit outside the mask
-pub small-missing : (n mask x : ℕ) {w : Bool} {g : ℕ} → Chosen n mask x w g → g ≡ 3 → x ≤ n → unmasked n mask x ≡ true
+-- graph 3 with a position missing: of a write, and a unit outside the mask
+pub small-missing : (n mask x : ℕ) {w : Bool} {g : ℕ} → Chosen n mask x w g → g ≡ 3 → x ≤ n
+    → (w ≡ true) × (unmasked n mask x ≡ true)
 small-missing n mask x (degraded-read e) g l = absurd (omega arith)
 small-missing n mask x (plain-read e) g l = absurd (omega arith)
 small-missing n mask x (parity-failed e) g l = absurd (omega arith)
 small-missing n mask x (large-write e f) g l = absurd (omega arith)
 small-missing n mask x (reconstruct-out e) g l = absurd (omega arith)
-small-missing n mask x (small-out e) g l = e
+small-missing n mask x (small-out e) g l = (refl, e)
 small-missing n mask x (small-none e f) g l = absurd (omega arith)
 small-missing n mask x (reconstruct-none e) g l = absurd (omega arith)

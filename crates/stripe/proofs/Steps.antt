@@ -16,15 +16,11 @@ use Rattle.stripe.specs.Blocks.{Blocks, changed, total, performed}
 use Rattle.stripe.specs.Group.{Group, sumTo}
 use Rattle.stripe.specs.Invariant.{Proper, Faithful, Untouched, isDone}
 use Rattle.stripe.specs.Request.{Request, advanced}
-use Rattle.stripe.proofs.Chosen.{Chosen, chosen-graph}
+use Rattle.stripe.proofs.Chosen.{row-of}
 use Rattle.stripe.proofs.Done.{unread-unwritten}
 use Rattle.stripe.proofs.Places.{masked-below, reads-what, reads-not-missing}
 use Rattle.stripe.proofs.Sums.{changed-same, changed-other}
 use Rattle.stripe.proofs.Totals.{total-is}
-
--- the row that chose a request's graph
-pub row-of : (n x : ℕ) (q : Request) → Proper n x q → Chosen n (q .mask) (q .missed) (q .write) (q .graph)
-row-of n x q P = chosen-graph n (q .mask) (q .missed) (q .write) (q .graph) (P .right-graph)
 
 -- any other step is done after step k as it was before
 pub still : (n : ℕ) (q : Request) (k : ℕ) (s : Step) → bit k (q .done) ≡ false → ¬ (numberOf n s ≡ k)

@@ -5,6 +5,7 @@ use mathlib.Core.Bool.{Bool, true, false, cond, _||_}
 use mathlib.Core.Logic.{_⊎_, inl, inr}
 use mathlib.Core.Path.{_≡_, refl, sym, ap, ap₂, _∙_}
 use native.Mathlib.Nat.{add-zero, add-suc, add-assoc, not-suc-le-zero}
+use native.Mathlib.Numerals.{add-one}
 use native.Mathlib.Omega.{arith}
 use lib.Count.{ones, ones-step}
 use lib.Dec.{eqb}
@@ -19,6 +20,10 @@ use Rattle.stripe.specs.Invariant.{tally}
 abbrev unit : Bool → ℕ
 unit t = cond t 1 0
 
+pub unit-bound : (t : Bool) → cond t 1 0 ≤ 1
+unit-bound true = omega arith
+unit-bound false = omega arith
+
 unit-le : (s t : Bool) → (s ≡ true → t ≡ true) → unit s ≤ unit t
 unit-le true t h = rw (h refl) (omega arith)
 unit-le false t h = omega arith
@@ -27,6 +32,10 @@ pub tally-cong : (m : ℕ) (p q : ℕ → Bool) → ((k : ℕ) → k < m → p k
 unfolding tally
 tally-cong zero p q h = refl
 tally-cong (suc m) p q h = ap₂ _+_ (tally-cong m p q (λ k l. h k (omega arith))) (ap (λ (t : Bool). unit t) (h m (omega arith)))
+
+pub tally-next : (m : ℕ) (p : ℕ → Bool) → tally (m + 1) p ≡ tally m p + cond (p m) 1 0
+unfolding tally
+tally-next m p = rw (add-one m)
 
 -- a test that holds wherever another does counts no less
 pub tally-le : (m : ℕ) (p q : ℕ → Bool) → ((k : ℕ) → k < m → p k ≡ true → q k ≡ true) → tally m p ≤ tally m q
