@@ -2,3 +2,5 @@
 pub mod Graphs
 pub mod Numbers
 pub mod Laws
+pub mod Shifts
+pub mod Sets
