@@ -1,7 +1,7 @@
 -- The laws of `xorTo`, the exclusive or of a function at the numbers below a bound: sums added, swapped and reordered, one term changed,
 -- and that a sum is zero exactly when any one term is the sum of the others.
 -- Assumes nothing.
-use Prim.Native.Nat.{ℕ, zero, suc, _+_, _^_, _≤_, _<_}
+use Prim.Native.Nat.{ℕ, zero, suc, _^_, _≤_, _<_}
 use mathlib.Core.Bool.{Bool, true, false, cond}
 use mathlib.Core.Path.{_≡_, refl, sym, ap, ap₂, _∙_}
 use native.Mathlib.Omega.{arith}
@@ -10,7 +10,8 @@ use lib.Bits.{bitXor, xor-lt}
 use lib.Dec.{eqb}
 use lib.Pow.{pow-pos}
 use Rattle.terms.specs.Sets.{xorTo}
-use Rattle.block.proofs.Xor.{xor-assoc, xor-comm, xor-zero, zero-xor, xor-self, xor-four, xor-twice, xor-zero-eq, eq-xor-zero}
+use Rattle.terms.proofs.Sets.{xorTo-cong}
+use Rattle.block.proofs.Xor.{xor-comm, xor-zero, zero-xor, xor-self, xor-four, xor-zero-eq, eq-xor-zero}
 
 -- f with v at k
 abbrev pub changedTo : ℕ → ℕ → (ℕ → ℕ) → ℕ → ℕ
@@ -26,12 +27,7 @@ changed-same k v f = rw (eq-eqb k k refl)
 changed-other : (k v : ℕ) (f : ℕ → ℕ) (i : ℕ) → (i ≡ k → ⊥) → changedTo k v f i ≡ f i
 changed-other k v f i h = rw (ne-eqb i k h)
 
--- ---- terms that are equal, or zero, or bounded
-
-pub sum-ext : (n : ℕ) (f g : ℕ → ℕ) → ((i : ℕ) → i < n → f i ≡ g i) → xorTo n f ≡ xorTo n g
-unfolding xorTo
-sum-ext zero f g h = refl
-sum-ext (suc n) f g h = ap₂ bitXor (sum-ext n f g (λ i l. h i (omega arith))) (h n (omega arith))
+-- ---- terms that are zero, or bounded
 
 pub sum-zero : (n : ℕ) (f : ℕ → ℕ) → ((i : ℕ) → i < n → f i ≡ 0) → xorTo n f ≡ 0
 unfolding xorTo
@@ -76,7 +72,7 @@ sum-single (suc n) k f h z = last (λ l. sum-single n k f l (λ i m. z i (omega 
 -- the term at k and the others
 pub sum-split : (n k : ℕ) (f : ℕ → ℕ) → k < n → xorTo n f ≡ bitXor (f k) (xorTo n (others k f))
 sum-split n k f h =
-    sum-ext n f (λ i. bitXor (only i) (others k f i)) (λ i l. parts i (eqb i k) refl) ∙ sum-add n only (others k f)
+    xorTo-cong n f (λ i. bitXor (only i) (others k f i)) (λ i l. parts i (eqb i k) refl) ∙ sum-add n only (others k f)
     ∙ ap (λ (x : ℕ). bitXor x (xorTo n (others k f))) one
   where
     only : ℕ → ℕ
@@ -92,7 +88,7 @@ sum-split n k f h =
 -- one term changed: the old one goes, the new one comes
 pub sum-change : (n k v : ℕ) (f : ℕ → ℕ) → k < n → xorTo n (changedTo k v f) ≡ bitXor (xorTo n f) (bitXor (f k) v)
 sum-change n k v f h =
-    sum-split n k (changedTo k v f) h ∙ ap₂ bitXor (changed-same k v f) (sum-ext n (others k (changedTo k v f)) (others k f) (λ i l. same i (eqb i k) refl))
+    sum-split n k (changedTo k v f) h ∙ ap₂ bitXor (changed-same k v f) (xorTo-cong n (others k (changedTo k v f)) (others k f) (λ i l. same i (eqb i k) refl))
     ∙ swap v (f k) (xorTo n (others k f)) ∙ ap (λ (x : ℕ). bitXor x (bitXor (f k) v)) (sym (sum-split n k f h))
   where
     same : (i : ℕ) (b : Bool) → eqb i k ≡ b → others k (changedTo k v f) i ≡ others k f i
@@ -105,7 +101,7 @@ sum-change n k v f h =
 
 -- a term beyond the bound changed
 pub sum-change-beyond : (n k v : ℕ) (f : ℕ → ℕ) → n ≤ k → xorTo n (changedTo k v f) ≡ xorTo n f
-sum-change-beyond n k v f h = sum-ext n (changedTo k v f) f (λ i l. changed-other k v f i (omega arith))
+sum-change-beyond n k v f h = xorTo-cong n (changedTo k v f) f (λ i l. changed-other k v f i (omega arith))
 
 -- all terms sum to zero exactly when any one is the sum of the others
 pub sum-zero-term : (n k : ℕ) (f : ℕ → ℕ) → k < n → xorTo n f ≡ 0 → f k ≡ xorTo n (others k f)
@@ -120,9 +116,9 @@ module _ (n : ℕ) (p q : ℕ → ℕ) (p-lt : (i : ℕ) → i < n → p i < n) 
   pub sum-reorder : ((i : ℕ) → i < n → q (p i) ≡ i) → ((i : ℕ) → i < n → p (q i) ≡ i) → (f : ℕ → ℕ)
       → xorTo n (λ i. f (p i)) ≡ xorTo n f
   sum-reorder qp pq f =
-      sum-ext n (λ i. f (p i)) (λ i. xorTo n (cell i)) (λ i l. sym (row i l))
+      xorTo-cong n (λ i. f (p i)) (λ i. xorTo n (cell i)) (λ i l. sym (row i l))
       ∙ sum-swap n n cell
-      ∙ sum-ext n (λ j. xorTo n (λ i. cell i j)) f (λ j l. column j l)
+      ∙ xorTo-cong n (λ j. xorTo n (λ i. cell i j)) f (λ j l. column j l)
     where
       -- f at j where j is the place of i, and nothing anywhere else
       cell : ℕ → ℕ → ℕ
