@@ -70,4 +70,4 @@ pub record Sure (w : World) (a : Account) : Type 0 where
   pub working : (i : ℕ) → i < w .state .records → isOpen (recordAt w i) ≡ true
       → Working (w .state) (w .work) (w .image) (a .row) (a .entry i) i (recordAt w i)
   pub read : (i : ℕ) → i < w .state .records → isFinished (recordAt w i) ≡ true → isWrite (recordAt w i) ≡ false
-      → blocksRead w i (recordAt w i .mask) ≡ a .entry i .due
+      → blocksRead (w .state) (w .work) i (recordAt w i .mask) ≡ a .entry i .due

@@ -6,3 +6,4 @@ pub mod Places
 pub mod Rows
 pub mod Invariant
 pub mod Gather
+pub mod Turn

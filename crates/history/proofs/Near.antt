@@ -5,19 +5,26 @@ use mathlib.Core.Bool.{Bool, true, false}
 use mathlib.Core.Logic.{_⊎_, inl, inr}
 use mathlib.Core.Path.{_≡_, refl, sym, ap, _∙_}
 use native.Mathlib.Omega.{arith}
-use borrow.Author.Tests.{ltb-true}
-use lib.Dec.{ltb}
-use Rattle.terms.specs.Sets.{bit}
-use Rattle.terms.proofs.Rows.{and-left}
-use Rattle.graph.specs.Steps.{masked}
+use Rattle.stripe.proofs.Chosen.{Chosen, degraded-read, plain-read, parity-failed, large-write, reconstruct-out, small-out, small-none, reconstruct-none, chosen-graph}
+use Rattle.stripe.proofs.Places.{masked-below}
 use Rattle.stripe.specs.Blocks.{Blocks}
 use Rattle.stripe.specs.Group.{Group}
-use Rattle.stripe.specs.Invariant.{Idle, Faithful}
+use Rattle.stripe.specs.Invariant.{Proper, Idle, Faithful}
 use Rattle.stripe.specs.Request.{Request}
 
-masked-below : (n mask p : ℕ) → masked n mask p ≡ true → p < n
-unfolding masked
-masked-below n mask p e = ltb-true p n (and-left (ltb p n) (bit p mask) e)
+-- a degraded read misses one of its units
+pub two-below : (n x : ℕ) (q : Request) → Proper n x q → q .graph ≡ 2 → q .missed ≤ n
+two-below n x q p e = go (chosen-graph n (q .mask) (q .missed) (q .write) (q .graph) (p .right-graph)) e
+  where
+    go : {w : Bool} {g : ℕ} → Chosen n (q .mask) (q .missed) w g → g ≡ 2 → q .missed ≤ n
+    go (degraded-read m) f = omega (arith, masked-below n (q .mask) (q .missed) m)
+    go (plain-read m) f = absurd (omega arith)
+    go (parity-failed m) f = absurd (omega arith)
+    go (large-write m k) f = absurd (omega arith)
+    go (reconstruct-out m) f = absurd (omega arith)
+    go (small-out m) f = absurd (omega arith)
+    go (small-none m k) f = absurd (omega arith)
+    go (reconstruct-none m) f = absurd (omega arith)
 
 -- the same in every position that counts, x missing
 pub record Near {A : Type 0} (n x : ℕ) (b b′ : Blocks A) : Type 0 where

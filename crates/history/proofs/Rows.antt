@@ -88,6 +88,16 @@ module _ (st : State) (row : ℕ → List ℕ) (e : Entry) where
   unfolding afterRow
   after-read w = rw w
 
+  -- it is of the row's blocks one by one
+  pub after-cong : (row′ : ℕ → List ℕ) (L : ℕ) → row′ L ≡ row L → afterRow st row′ e L ≡ afterRow st row e L
+  unfolding afterRow writtenRow
+  after-cong row′ L same = go (e .write)
+    where
+      go : (w : Bool) → cond w (writtenRow st row′ (e .stripe) (e .mask) (e .payload)) row′ L
+          ≡ cond w (writtenRow st row (e .stripe) (e .mask) (e .payload)) row L
+      go true = rw same
+      go false = same
+
   -- at a unit of its mask, the payload's
   pub after-masked : (u b : ℕ) → e .write ≡ true → masked (unitsOf st) (e .mask) u ≡ true → b < st .block
       → rowOf st (afterRow st row e) (e .stripe) b u ≡ getD (e .payload) (rank (e .mask) u * st .block + b) 0
