@@ -7,3 +7,4 @@ pub mod Rows
 pub mod Invariant
 pub mod Gather
 pub mod Turn
+pub mod Collect
