@@ -7,7 +7,9 @@ pub mod Done
 pub mod Totals
 pub mod Steps
 pub mod Readied
-pub mod Kept
-pub mod Sizes
+pub mod NewRow
 pub mod Afresh
+pub mod Kept
+pub mod Ends
+pub mod Sizes
 pub mod Counts
