@@ -13,3 +13,5 @@ pub mod Kept
 pub mod Ends
 pub mod Sizes
 pub mod Counts
+pub mod Bytes
+pub mod NeverAgain
