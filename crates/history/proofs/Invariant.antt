@@ -21,7 +21,7 @@ use Rattle.stripe.specs.Request.{Request}
 use Rattle.history.specs.Account.{Account, Entry}
 use Rattle.history.specs.Promise.{recordAt, blocksRead}
 use Rattle.history.specs.World.{World}
-use Rattle.history.proofs.Bytes.{bytes}
+use Rattle.stripe.proofs.Bytes.{bytes}
 use Rattle.history.proofs.Rows.{rowOf, afterRow}
 
 -- a record's numbers as a stripe's theory sees them

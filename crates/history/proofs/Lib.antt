@@ -1,5 +1,4 @@
 -- Why the promise holds, by subject.
-pub mod Bytes
 pub mod Near
 pub mod Tables
 pub mod Places

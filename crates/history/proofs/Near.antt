@@ -9,7 +9,7 @@ use Rattle.stripe.proofs.Chosen.{Chosen, degraded-read, plain-read, parity-fail
 use Rattle.stripe.proofs.Places.{masked-below}
 use Rattle.stripe.specs.Blocks.{Blocks}
 use Rattle.stripe.specs.Group.{Group}
-use Rattle.stripe.specs.Invariant.{Proper, Idle, Faithful}
+use Rattle.stripe.specs.Invariant.{Proper, Faithful}
 use Rattle.stripe.specs.Request.{Request}
 
 -- a degraded read misses one of its units
@@ -33,9 +33,6 @@ pub record Near {A : Type 0} (n x : ℕ) (b b′ : Blocks A) : Type 0 where
   pub same-new : (p : ℕ) → p ≤ n → b′ .new p ≡ b .new p
 
 module _ (G : Group) (n x : ℕ) where
-  pub idle-near : (R cell cell′ : ℕ → G .carrier) → ((p : ℕ) → p ≤ n → ¬ (p ≡ x) → cell′ p ≡ cell p) → Idle G n x R cell → Idle G n x R cell′
-  idle-near R cell cell′ same i = record { row = i .row; holds = λ p l d. same p l d ∙ i .holds p l d }
-
   -- the read block of X is one of the stripe's
   pub faithful-near : (q : Request) (R R′ : ℕ → G .carrier) (b b′ : Blocks (G .carrier)) → (q .graph ≡ 2 → q .missed ≤ n) → Near n x b b′
       → Faithful G n x q R R′ b → Faithful G n x q R R′ b′
@@ -51,24 +48,4 @@ module _ (G : Group) (n x : ℕ) where
         computed = λ g d. near .same-new n (omega arith) ∙ f .computed g d;
         written = λ p l d e. near .same-cell p l d ∙ f .written p l d e;
         unwritten = λ p l d e u. near .same-cell p l d ∙ f .unwritten p l d e u;
-      }
-
-  -- none was missing, and now x′ may be
-  pub idle-fails : (x′ : ℕ) (R cell : ℕ → G .carrier) → n < x → Idle G n x R cell → Idle G n x′ R cell
-  idle-fails x′ R cell none i = record { row = i .row; holds = λ p l d. i .holds p l (λ e. omega arith) }
-
-  pub faithful-fails : (x′ : ℕ) (q : Request) (R R′ : ℕ → G .carrier) (b : Blocks (G .carrier)) → n < x
-      → Faithful G n x q R R′ b → Faithful G n x′ q R R′ b
-  faithful-fails x′ q R R′ b none f =
-      record {
-        old-row = f .old-row;
-        new-row = f .new-row;
-        read-same = f .read-same;
-        others-same = f .others-same;
-        kept = f .kept;
-        read = f .read;
-        inferred = f .inferred;
-        computed = f .computed;
-        written = λ p l d e. f .written p l (λ z. omega arith) e;
-        unwritten = λ p l d e u. f .unwritten p l (λ z. omega arith) e u;
       }

@@ -27,7 +27,7 @@ use Rattle.stripe.specs.Group.{sumTo}
 use Rattle.stripe.specs.Invariant.{IsRow}
 use Rattle.history.specs.Account.{Entry}
 use Rattle.history.specs.Row.{unitIn, writtenRow}
-use Rattle.history.proofs.Bytes.{bytes, sum-xor}
+use Rattle.stripe.proofs.Bytes.{bytes, sum-xor}
 use Rattle.history.proofs.Places.{block-stripe, block-unit}
 
 -- byte b of unit u of stripe s

@@ -25,15 +25,16 @@ use Rattle.record.specs.Life.{free, isFree, isOpen, isFinished, isWrite, unitsO
 use Rattle.record.specs.Sound.{sound, soundRecord, held, holds}
 use Rattle.record.specs.declared.Record.{Record}
 use Rattle.array.proofs.Frames.{newByte, gotByte}
+use Rattle.stripe.proofs.Kept.{decayed-idle}
 use Rattle.stripe.specs.Blocks.{changed}
 use Rattle.stripe.specs.Invariant.{Proper}
 use Rattle.history.specs.Account.{Account, Entry}
 use Rattle.history.specs.Promise.{recordAt, blocksRead}
 use Rattle.history.specs.World.{World}
-use Rattle.history.proofs.Bytes.{bytes}
+use Rattle.stripe.proofs.Bytes.{bytes}
 use Rattle.history.proofs.Gather.{gathered-cong}
 use Rattle.history.proofs.Invariant.{Matches, Working, Resting, Sure, requestOf}
-use Rattle.history.proofs.Near.{Near, idle-near, faithful-near, two-below}
+use Rattle.history.proofs.Near.{Near, faithful-near, two-below}
 use Rattle.history.proofs.Rows.{rowOf, afterRow, row-cong, after-cong}
 use Rattle.history.proofs.Tables.{Sound, sound-elim, sound-intro, held-elim, held-intro, holds-not, holds-elim, fit, open-not-free}
 
@@ -148,7 +149,7 @@ module _ (w : World) (a : Account) (sure : Sure w a) (i s : ℕ) (r′ : Record)
   resting-there : (t : ℕ) → ¬ (s ≡ t) → t < w .state .stripes → held (after .table) t ≡ false → Resting (w .state) image′ row′ t
   resting-there t d h free-now b hb =
       rw (row-there t b d h)
-      (idle-near bytes (unitsOf (w .state)) (missingIn (w .state) t) _ _ _
+      (decayed-idle bytes (unitsOf (w .state)) (missingIn (w .state) t) _ _ _
       (λ p l m. turn .cell-others (cardAt (w .state .cards) t p) t b d h hb)
       (sure .resting t h (not-held t d free-now) b hb))
 

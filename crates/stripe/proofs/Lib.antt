@@ -7,7 +7,11 @@ pub mod Done
 pub mod Totals
 pub mod Steps
 pub mod Readied
-pub mod Kept
-pub mod Sizes
+pub mod NewRow
 pub mod Afresh
+pub mod Kept
+pub mod Ends
+pub mod Sizes
 pub mod Counts
+pub mod Bytes
+pub mod NeverAgain

@@ -17,8 +17,8 @@ use Rattle.stripe.specs.Group.{Group, sumTo}
 use Rattle.stripe.specs.Invariant.{Proper, Faithful, Untouched, isDone}
 use Rattle.stripe.specs.Request.{Request, advanced}
 use Rattle.stripe.proofs.Chosen.{row-of}
-use Rattle.stripe.proofs.Done.{unread-unwritten}
-use Rattle.stripe.proofs.Places.{masked-below, reads-what, reads-not-missing}
+use Rattle.stripe.proofs.Done.{write-in, unread-unwritten}
+use Rattle.stripe.proofs.Places.{masked-below, reads-what, reads-not-missing, writes-what, writes-inside}
 use Rattle.stripe.proofs.Sums.{changed-same, changed-other}
 use Rattle.stripe.proofs.Totals.{total-is}
 
@@ -32,6 +32,27 @@ module _ (G : Group) (n x : ℕ) (q : Request) (R R′ : ℕ → G .carrier) (b 
     (P : Proper n x q)
     (F : Faithful G n x q R R′ b)
   where
+    -- a read writes nothing, and no unit outside the mask is written: these hold the old row
+    unwritten-but : (p : ℕ) → p ≤ n → (writes n (q .graph) (q .mask) (q .missed) p ≡ true → ⊥) → isDone n q (wr p) ≡ false
+    unfolding isDone numberOf
+    unwritten-but p l h = go (truth (bit (n + 2 + p) (q .done)))
+      where
+        go : (bit (n + 2 + p) (q .done) ≡ true) ⊎ (bit (n + 2 + p) (q .done) ≡ false) → bit (n + 2 + p) (q .done) ≡ false
+        go (inl e) = absurd (h (write-in n (q .graph) (q .mask) (q .missed) (q .done) (P .in-order) p l e))
+        go (inr e) = e
+
+    pub read-cell : q .write ≡ false → (p : ℕ) → p ≤ n → ¬ (p ≡ x) → b .cell p ≡ R p
+    unfolding Untouched
+    read-cell w p l h =
+        F .unwritten p l h
+        (unwritten-but p l (λ e. true≢false (sym (writes-what n (q .mask) (q .missed) p (row-of n x q P) e .0) ∙ w)))
+        (inl w)
+
+    pub outside-cell : (p : ℕ) → p ≤ n → ¬ (p ≡ x) → unmasked n (q .mask) p ≡ true → b .cell p ≡ R p
+    unfolding Untouched
+    outside-cell p l h u =
+        F .unwritten p l h (unwritten-but p l (λ e. writes-inside n (q .mask) (q .missed) p (row-of n x q P) e u)) (inr (inl u))
+
     -- a position that is read holds the old row
     read-holds : (p : ℕ) → p ≤ n → ¬ (p ≡ x) → reads n (q .graph) (q .mask) (q .missed) p ≡ true → bit p (q .done) ≡ false → b .cell p ≡ R p
     unfolding isDone numberOf Untouched

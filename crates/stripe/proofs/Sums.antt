@@ -9,7 +9,7 @@ use native.Mathlib.Omega.{arith}
 use lib.Dec.{eqb}
 use borrow.Author.Tests.{eqb-true, eq-eqb, ne-eqb}
 use Rattle.stripe.specs.Blocks.{changed}
-use Rattle.stripe.specs.Group.{Group, sumTo}
+use Rattle.stripe.specs.Group.{Group, sumTo, others}
 use Rattle.stripe.specs.Invariant.{IsRow}
 
 -- a function changed at p is the new thing there, and what it was anywhere else
@@ -59,12 +59,9 @@ module _ (G : Group) where
       ap (λ (t : G .carrier). G .add t (G .add (f m) (g m))) (sum-add m f g)
       ∙ add-cross (sumTo G m f) (sumTo G m g) (f m) (g m)
 
-  -- one position alone, and all but one
+  -- one position alone
   unfoldable pub alone : ℕ → G .carrier → ℕ → G .carrier
   alone x a p = cond (eqb p x) a (G .nought)
-
-  unfoldable pub others : ℕ → (ℕ → G .carrier) → ℕ → G .carrier
-  others x f p = cond (eqb p x) (G .nought) (f p)
 
   sum-alone-step : (m x : ℕ) (a : G .carrier) → (x < m → sumTo G m (alone x a) ≡ a) → (x ≡ m) ⊎ (x < m)
       → G .add (sumTo G m (alone x a)) (alone x a m) ≡ a
@@ -84,14 +81,14 @@ module _ (G : Group) where
   sum-alone (suc m) x a l = sum-alone-step m x a (λ k. sum-alone m x a k) (eq-or-lt-of-le (le-of-suc-le-suc l))
 
   -- a sum is what stands at one position and the sum of the others
-  pub sum-others : (m x : ℕ) (f : ℕ → G .carrier) → x < m → sumTo G m f ≡ G .add (sumTo G m (others x f)) (f x)
+  pub sum-others : (m x : ℕ) (f : ℕ → G .carrier) → x < m → sumTo G m f ≡ G .add (sumTo G m (others G x f)) (f x)
   unfolding others alone
   sum-others m x f l =
-      sum-cong m f (λ p. G .add (others x f p) (alone x (f x) p)) (λ p k. apart p (eqb p x) refl)
-      ∙ sum-add m (others x f) (alone x (f x))
-      ∙ ap (λ (t : G .carrier). G .add (sumTo G m (others x f)) t) (sum-alone m x (f x) l)
+      sum-cong m f (λ p. G .add (others G x f p) (alone x (f x) p)) (λ p k. apart p (eqb p x) refl)
+      ∙ sum-add m (others G x f) (alone x (f x))
+      ∙ ap (λ (t : G .carrier). G .add (sumTo G m (others G x f)) t) (sum-alone m x (f x) l)
     where
-      apart : (p : ℕ) (t : Bool) → eqb p x ≡ t → f p ≡ G .add (others x f p) (alone x (f x) p)
+      apart : (p : ℕ) (t : Bool) → eqb p x ≡ t → f p ≡ G .add (others G x f p) (alone x (f x) p)
       apart p true e = rw e (ap f (eqb-true p x e) ∙ sym (nought-add (f x)))
       apart p false e = rw e (sym (G .add-nought (f p)))
 
@@ -112,18 +109,18 @@ module _ (G : Group) where
       apart p false e = rw e (sym (G .add-nought (f p)))
 
   -- of a row any one position is the sum of the others
-  pub row-others : (n x : ℕ) (R : ℕ → G .carrier) → x ≤ n → IsRow G n R → R x ≡ sumTo G (suc n) (others x R)
+  pub row-others : (n x : ℕ) (R : ℕ → G .carrier) → x ≤ n → IsRow G n R → R x ≡ sumTo G (suc n) (others G x R)
   unfolding IsRow
   row-others n x R l e =
-      sym (equal-of-nought (sumTo G (suc n) (others x R)) (R x) (sym (sum-others (suc n) x R (omega arith)) ∙ e))
+      sym (equal-of-nought (sumTo G (suc n) (others G x R)) (R x) (sym (sum-others (suc n) x R (omega arith)) ∙ e))
 
   -- and a function of which one position is the sum of the others is a row
-  pub others-row : (n x : ℕ) (R : ℕ → G .carrier) → x ≤ n → R x ≡ sumTo G (suc n) (others x R) → IsRow G n R
+  pub others-row : (n x : ℕ) (R : ℕ → G .carrier) → x ≤ n → R x ≡ sumTo G (suc n) (others G x R) → IsRow G n R
   unfolding IsRow
   others-row n x R l e =
       sum-others (suc n) x R (omega arith)
-      ∙ ap (λ (t : G .carrier). G .add (sumTo G (suc n) (others x R)) t) e
-      ∙ G .add-self (sumTo G (suc n) (others x R))
+      ∙ ap (λ (t : G .carrier). G .add (sumTo G (suc n) (others G x R)) t) e
+      ∙ G .add-self (sumTo G (suc n) (others G x R))
 
   -- parity is the sum of the units
   pub row-parity : (n : ℕ) (R : ℕ → G .carrier) → IsRow G n R → sumTo G n R ≡ R n

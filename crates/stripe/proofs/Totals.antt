@@ -11,11 +11,11 @@ use borrow.Author.Tests.{eqb-true, eqb-false, eq-eqb, ne-eqb, le-leb}
 use Rattle.terms.proofs.Rows.{true≢false}
 use Rattle.graph.specs.Steps.{byGraph, masked, unmasked, reads, sums}
 use Rattle.graph.specs.Sums.{takesNew}
-use Rattle.stripe.specs.Group.{Group, sumTo}
+use Rattle.stripe.specs.Group.{Group, sumTo, others}
 use Rattle.stripe.specs.Invariant.{IsRow}
 use Rattle.stripe.proofs.Chosen.{Chosen, degraded-read, plain-read, parity-failed, large-write, reconstruct-out, small-out, small-none, reconstruct-none}
 use Rattle.stripe.proofs.Places.{Place, at-parity, at-masked, at-unmasked, place, masked-below, unmasked-below, masked-not, all-masked}
-use Rattle.stripe.proofs.Sums.{nought-add, sum-cong, sum-nought, sum-add, others, row-others}
+use Rattle.stripe.proofs.Sums.{nought-add, sum-cong, sum-nought, sum-add, row-others}
 
 -- the exclusive or as a sum of blocks: of the read blocks and the new units that it takes
 abbrev pub summed : (G : Group) → ℕ → ℕ → ℕ → ℕ → (ℕ → G .carrier) → (ℕ → G .carrier) → G .carrier
