@@ -11,6 +11,7 @@ use Rattle.terms.specs.Reply.{accepted}
 use Rattle.geometry.specs.Limits.{none}
 use Rattle.geometry.specs.Placement.{stripeOf, cardOf, cardAt, outIn}
 use Rattle.geometry.specs.Store.{readAt}
+use Rattle.geometry.specs.declared.State.{State}
 use Rattle.record.specs.Life.{free, isFree, isOpen, isFinished, isWrite, unitsOf}
 use Rattle.record.specs.Sound.{sound, held}
 use Rattle.record.specs.declared.Record.{Record}
@@ -34,15 +35,13 @@ abbrev pub Out : World → ℕ → ℕ → Type 0
 Out w c s = c ≡ outIn (w .state) s
 
 -- the read blocks of record i at the units of a mask, ascending
-unfoldable pub blocksRead : World → ℕ → ℕ → List ℕ
-blocksRead w i mask =
-    gathered (unitsOf (w .state)) mask
-    (λ u. part (readAt (w .state .cards) (w .state .block) i u) (w .state .block) (w .work))
+unfoldable pub blocksRead : State → List ℕ → ℕ → ℕ → List ℕ
+blocksRead st work i mask = gathered (unitsOf st) mask (λ u. part (readAt (st .cards) (st .block) i u) (st .block) work)
 
 pub record Promise (w : World) (a : Account) : Type 0 where
   -- a finished read has what the account noted, collected or not
   pub reads : (i : ℕ) → i < w .state .records → isFinished (recordAt w i) ≡ true → isWrite (recordAt w i) ≡ false
-      → blocksRead w i (recordAt w i .mask) ≡ a .entry i .due
+      → blocksRead (w .state) (w .work) i (recordAt w i .mask) ≡ a .entry i .due
   -- an accepted collect answers the account's count, and hands over what is due; the rest of the buffer stays
   pub counts : (i : ℕ) (result : List ℕ) → play w (collect i result) .reply .number ≡ 0
       → play w (collect i result) .reply ≡ accepted (a .entry i .steps) 0

@@ -8,6 +8,11 @@ use Rattle.graph.specs.Sums.{takesRead, takesNew, sumsToRead}
 use Rattle.stripe.specs.Group.{Group, sumTo}
 use Rattle.stripe.specs.Request.{Request}
 
+-- the step reads or writes position p; the exclusive or is on none
+pub data On (p : ℕ) : Step → Type 0 where
+  by-read : On p (rd p)
+  by-write : On p (wr p)
+
 -- a stripe's contents, the request's read blocks and its blocks to write, each a function of the position
 pub record Blocks (A : Type 0) : Type 0 where
   pub cell : ℕ → A

@@ -52,6 +52,15 @@ module _ (G : Group) where
   unfoldable pub IsRow : ℕ → (ℕ → G .carrier) → Type 0
   IsRow n R = sumTo G (suc n) R ≡ G .nought
 
+  -- the units after a write: new in the mask, as they were outside it
+  unfoldable pub unitsAfter : ℕ → (ℕ → G .carrier) → (ℕ → G .carrier) → ℕ → G .carrier
+  unitsAfter mask R new p = cond (bit p mask) (new p) (R p)
+
+  -- the row after a request on R: a read's is R; a write's has these units, and parity is their sum
+  unfoldable pub rowAfter : ℕ → Bool → ℕ → (ℕ → G .carrier) → (ℕ → G .carrier) → ℕ → G .carrier
+  rowAfter n write mask R new p =
+      cond write (cond (eqb p n) (sumTo G n (unitsAfter mask R new)) (unitsAfter mask R new p)) (R p)
+
   -- an idle stripe: working positions hold the row
   pub record Idle (n x : ℕ) (R cell : ℕ → G .carrier) : Type 0 where
     pub row : IsRow n R

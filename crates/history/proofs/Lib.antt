@@ -1,0 +1,9 @@
+-- Why the promise holds, by subject.
+pub mod Near
+pub mod Tables
+pub mod Places
+pub mod Rows
+pub mod Invariant
+pub mod Gather
+pub mod Turn
+pub mod Collect
