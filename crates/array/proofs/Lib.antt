@@ -6,4 +6,5 @@ pub mod Steps
 pub mod Rank
 pub mod Turns
 pub mod Units
+pub mod Adding
 pub mod Kept

@@ -8,3 +8,4 @@ pub mod Collection
 pub mod Scan
 pub mod Answers
 pub mod Premises
+pub mod Sums

@@ -4,3 +4,4 @@
 mod admits;
 pub mod answers;
 mod collects;
+mod sums;
