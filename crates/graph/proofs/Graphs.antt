@@ -6,6 +6,7 @@ use mathlib.Core.Path.{_≡_, refl, sym, _∙_}
 use native.Mathlib.Omega.{arith}
 use lib.Dec.{ltb, leb, eqb}
 use borrow.Author.Tests.{ne-eqb, le-ltb}
+use Rattle.graph.specs.Sums.{takesNew}
 use Rattle.graph.specs.Steps.{byGraph, masked, unmasked, readBase, sums, writeBase}
 
 pub data Graph : ℕ → Type 0 where
@@ -97,3 +98,38 @@ sums-late _ large l = refl
 sums-late _ failed l = refl
 sums-late _ nought l = absurd (omega arith)
 sums-late g (above h) l = byGraph-above g false true true true true false false h ∙ sym (le-ltb g 6 (omega arith))
+
+-- the graphs whose exclusive or takes new units are 3 to 5
+pub news-early : (n g mask p : ℕ) → Graph g → g < 3 → takesNew n g mask p ≡ false
+unfolding takesNew byGraph
+news-early n _ mask p plain l = refl
+news-early n _ mask p degraded l = refl
+news-early n _ mask p small l = absurd (omega arith)
+news-early n _ mask p reconstruct l = absurd (omega arith)
+news-early n _ mask p large l = absurd (omega arith)
+news-early n _ mask p failed l = absurd (omega arith)
+news-early n _ mask p nought l = refl
+news-early n g mask p (above h) l = absurd (omega arith)
+
+pub news-mid : (n g mask p : ℕ) → Graph g → 3 ≤ g → g ≤ 5 → takesNew n g mask p ≡ masked n mask p
+unfolding takesNew byGraph
+news-mid n _ mask p plain l u = absurd (omega arith)
+news-mid n _ mask p degraded l u = absurd (omega arith)
+news-mid n _ mask p small l u = refl
+news-mid n _ mask p reconstruct l u = refl
+news-mid n _ mask p large l u = refl
+news-mid n _ mask p failed l u = absurd (omega arith)
+news-mid n _ mask p nought l u = absurd (omega arith)
+news-mid n g mask p (above h) l u = absurd (omega arith)
+
+pub news-late : (n g mask p : ℕ) → Graph g → 5 < g → takesNew n g mask p ≡ false
+unfolding takesNew byGraph
+news-late n _ mask p plain l = absurd (omega arith)
+news-late n _ mask p degraded l = absurd (omega arith)
+news-late n _ mask p small l = absurd (omega arith)
+news-late n _ mask p reconstruct l = absurd (omega arith)
+news-late n _ mask p large l = absurd (omega arith)
+news-late n _ mask p failed l = refl
+news-late n _ mask p nought l = absurd (omega arith)
+news-late n g mask p (above h) l =
+    let m = masked n mask p in byGraph-above g false false m m m false false h

@@ -9,10 +9,10 @@ use native.Mathlib.Omega.{arith}
 use lib.Bits.{bitAnd, and-le-l}
 use lib.Dec.{leb, eqb}
 use lib.Pow.{pow-pos, pow-mono, pow-lt, pow-add}
-use borrow.Author.Tests.{eqb-true, eqb-false, eq-eqb, ne-eqb, leb-true, leb-false}
-use Rattle.terms.proofs.Bits.{bit-none, bit-beyond, bit-add-same, bit-add-other, bit-setOf, setOf-bound, is-setOf, bit-and, subset-elim, subset-intro}
+use borrow.Author.Tests.{eqb-true, eqb-false, eq-eqb, ne-eqb, leb-true, leb-false, not-true, not-false}
+use Rattle.terms.proofs.Bits.{bit-none, bit-ext, bit-beyond, bit-add-same, bit-add-other, bit-setOf, setOf-bound, is-setOf, bit-and, subset-elim, subset-intro}
 use Rattle.terms.proofs.Rows.{truth, true≢false, or-not-elim, or-not-intro}
-use Rattle.terms.proofs.Sets.{allBelow-elim, allBelow-intro}
+use Rattle.terms.proofs.Sets.{allBelow-elim, allBelow-intro, allBelow-fails}
 use Rattle.terms.specs.Sets.{bit, setOf, allBelow}
 
 pub pow-next : (n : ℕ) → 2 ^ (n + 1) ≡ 2 * 2 ^ n
@@ -86,3 +86,16 @@ flag-below k r i false h l = ap (bit i) (add-zero r)
 pub flag-at : (k r : ℕ) (b : Bool) → r < 2 ^ k → bit k (r + cond b (2 ^ k) 0) ≡ b
 flag-at k r true h = bit-add-same k r (bit-beyond k r k h (omega arith))
 flag-at k r false h = ap (bit k) (add-zero r) ∙ bit-beyond k r k h (omega arith)
+
+-- ---- a set that is not empty has a member
+
+pub some-bit : (n m : ℕ) → m < 2 ^ n → ¬ (m ≡ 0) → (p : ℕ) × (p < n) × (bit p m ≡ true)
+some-bit n m h z =
+    ⊎-elim
+    (λ e.
+    absurd
+    (z
+    (bit-ext n m 0 h (pow-pos n)
+    (λ i l. not-true (bit i m) (allBelow-elim n (λ i. not (bit i m)) e i l) ∙ sym (bit-none i)))))
+    (λ e. let (p, l, f) = allBelow-fails n (λ i. not (bit i m)) e in (p, l, not-false (bit p m) f))
+    (truth (allBelow n (λ i. not (bit i m))))
