@@ -12,25 +12,25 @@ use Rattle.array.specs.declared.answers.Scanned.{Scanned}
 abbrev pub disagreeing : ℕ → ℕ → Reply
 disagreeing s b = record { number = 13; first = s; second = b }
 
-unfoldable pub openedReply : Opened → Reply
+abbrev pub openedReply : Opened → Reply
 openedReply Opened.Open = accepted 0 0
 openedReply (Opened.Refused k) = refused k
 openedReply (Opened.Disagrees s b) = disagreeing s b
 
-unfoldable pub admittedReply : Admitted → Reply
+abbrev pub admittedReply : Admitted → Reply
 admittedReply (Admitted.Taken i) = accepted i 0
 admittedReply (Admitted.Refused k) = refused k
 
-unfoldable pub steppedReply : Stepped → Reply
+abbrev pub steppedReply : Stepped → Reply
 steppedReply Stepped.Done = accepted 0 0
 steppedReply (Stepped.Chosen g) = accepted g 0
 steppedReply (Stepped.Refused k) = refused k
 
-unfoldable pub collectedReply : Collected → Reply
+abbrev pub collectedReply : Collected → Reply
 collectedReply (Collected.Steps c) = accepted c 0
 collectedReply (Collected.Refused k) = refused k
 
-unfoldable pub scannedReply : Scanned → Reply
+abbrev pub scannedReply : Scanned → Reply
 scannedReply Scanned.Right = accepted 0 0
 scannedReply (Scanned.Refused k) = refused k
 scannedReply (Scanned.Disagrees s b) = disagreeing s b

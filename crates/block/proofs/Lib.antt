@@ -4,3 +4,4 @@ pub mod Sums
 pub mod Blocks
 pub mod Turns
 pub mod Zeros
+pub mod Carried

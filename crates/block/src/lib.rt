@@ -1,5 +1,9 @@
 // Bytes and blocks: copying a block, the sum of blocks, the first byte that is not zero.
 // Assumes nothing.
+pub use parts::carry;
+
+mod parts;
+
 ghost use mathlib.Core.Path.{_≡_};
 ghost use Prim.Native.Nat.{min};
 ghost use Rattle.block.specs.Blocks.{copied, added, allZero, firstByte};

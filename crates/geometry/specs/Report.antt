@@ -59,6 +59,6 @@ reporting st c =
     record { reply = onAccept number (accepted 0 0) (refused number); state = onAccept number (marked st c) st }
 
 -- the reply of each answer
-unfoldable pub reportedReply : Reported → Reply
+abbrev pub reportedReply : Reported → Reply
 reportedReply Marked = accepted 0 0
 reportedReply (Refused k) = refused k
