@@ -55,7 +55,19 @@ impl State {
 }
 
 impl Geometry {
-    // The geometry that placement is asked of: B is taken as 16, K as 1.
+    // A geometry of so many cards and stripes, for placement: B is taken as 16, K as 1.
+    pub fn places(cards: u64, stripes: u64) -> Geometry
+        ensures { λ r. ⌜ r ≡ placesOf cards stripes ⌝ }
+    {
+        Geometry {
+            cards,
+            stripes,
+            block: 16,
+            records: 1,
+        }
+    }
+
+    // This geometry, for placement: B is taken as 16, K as 1.
     fn for_places(mut self) -> Geometry
         ensures { λ r. ⌜ r ≡ placesOf (self .cards) (self .stripes) ⌝ }
     {
