@@ -18,6 +18,20 @@ reply Right = accepted 0 0
 reply (Disagrees s b) = record { number = 13; first = s; second = b }
 reply (Refused k) = refused k
 
+-- 1, 2 and 13, with some stripes passed over: what an open array's scan and opening ask
+unfoldable pub lookRefusal : State → List ℕ → (ℕ → Bool) → ℕ
+lookRefusal st image pass =
+    firstRow
+    (row (beyondState st) 1
+    ∷ row (imageWrong st image) 2
+    ∷ row (not (rightParity (st .cards) (st .stripes) (st .block) image pass)) 13
+    ∷ [])
+
+unfoldable pub lookReply : State → List ℕ → (ℕ → Bool) → Reply
+lookReply st image pass =
+    let number = lookRefusal st image pass in
+    onAccept number (accepted 0 0) (refusedOr13 number (disagreement (st .cards) (st .stripes) (st .block) image pass))
+
 -- no stripe is passed over
 abbrev pub nothingHeld : ℕ → Bool
 nothingHeld s = false

@@ -5,7 +5,12 @@ ghost use Prim.Native.Nat.{_<_};
 ghost use Rattle.block.specs.Blocks.{summed};
 ghost use Rattle.parity.specs.Fitting.{Fitting};
 ghost use Rattle.parity.specs.Parity.{cell, looked, passes};
-ghost use Rattle.parity.specs.Scan.{reply};
+ghost use Rattle.parity.specs.Scan.{reply, lookReply, idleScanReply};
+use geometry::NONE;
+use geometry::State;
+
+// A number that no stripe has.
+pub const NO_STRIPE: u64 = 1024;
 
 // What a scan answers: parity is right; refused by 13, with the lowest stripe and the lowest byte in it where parity disagrees; or refused.
 pub enum Scan {
@@ -99,4 +104,40 @@ fn look(image: &[u8], cards: usize, stripes: usize, size: usize, skip: [u64; 8])
         stripe: stripe as u64,
         byte: byte as u64,
     }
+}
+
+// The parity of all stripes but those that are passed over. Refusals 1, 2 and 13.
+pub fn scan_but(state: State, image: &[u8], skip: [u64; 8]) -> Scan
+    ensures { λ r. ⌜ reply r ≡ lookReply state (now (image .entry)) (passes skip) ⌝ }
+{
+    if state.beyond() {
+        return Scan::Refused(1);
+    }
+    if image.len() != state.image_size() {
+        return Scan::Refused(2);
+    }
+    let cards = state.cards as usize;
+    let stripes = state.stripes as usize;
+    let size = state.block as usize;
+    look(image, cards, stripes, size, skip)
+}
+
+// The scan of an array with nothing open. Refusals 1, 2, 4, 12 and 13.
+pub fn idle_scan(state: State, image: &[u8]) -> Scan
+    ensures { λ r. ⌜ reply r ≡ idleScanReply state (now (image .entry)) ⌝ }
+{
+    if state.beyond() {
+        return Scan::Refused(1);
+    }
+    if image.len() != state.image_size() {
+        return Scan::Refused(2);
+    }
+    if state.is_lost() {
+        return Scan::Refused(4);
+    }
+    let out = state.out;
+    if out != NONE {
+        return Scan::Refused(12);
+    }
+    scan_but(state, image, [NO_STRIPE; 8])
 }
