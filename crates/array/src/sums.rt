@@ -6,30 +6,39 @@ ghost use Rattle.block.specs.Blocks.{summed, carried};
 use block::add;
 use block::carry;
 use geometry::State;
-use graph::choice::has;
+use graph::sums::takes_new;
+use graph::sums::takes_read;
 
-// Adds a record's read blocks of a set of positions.
-fn add_reads(sum: &mut [u8; 512], state: State, record: u64, set: u64, work: &[u8])
-    ensures { λ _. ⌜ now (sum .exit) ≡ summed (state .cards) (readIf state «record» set (now (work .entry))) (now (sum .entry)) ⌝ }
+// Adds the read blocks that a record's graph takes.
+fn add_reads(
+    sum: &mut [u8; 512],
+    state: State,
+    record: u64,
+    graph: u64,
+    mask: u64,
+    x: u64,
+    work: &[u8],
+)
+    ensures { λ _. ⌜ now (sum .exit) ≡ summed (state .cards) (readIf state «record» graph mask x (now (work .entry))) (now (sum .entry)) ⌝ }
 {
     let cards = state.cards;
     let mut p: u64 = 0;
     while p < cards {
-        if has(p, set) {
+        if takes_read(cards - 1, graph, mask, x, p) {
             add(sum, state.read_block(work, record, p));
         }
         p += 1;
     }
 }
 
-// Adds a record's blocks to write of a set of positions.
-fn add_news(sum: &mut [u8; 512], state: State, record: u64, set: u64, work: &[u8])
-    ensures { λ _. ⌜ now (sum .exit) ≡ summed (state .cards) (newIf state «record» set (now (work .entry))) (now (sum .entry)) ⌝ }
+// Adds the blocks to write that it takes.
+fn add_news(sum: &mut [u8; 512], state: State, record: u64, graph: u64, mask: u64, work: &[u8])
+    ensures { λ _. ⌜ now (sum .exit) ≡ summed (state .cards) (newIf state «record» graph mask (now (work .entry))) (now (sum .entry)) ⌝ }
 {
     let cards = state.cards;
     let mut p: u64 = 0;
     while p < cards {
-        if has(p, set) {
+        if takes_new(cards - 1, graph, mask, p) {
             add(sum, state.write_block(work, record, p));
         }
         p += 1;
@@ -40,16 +49,17 @@ fn add_news(sum: &mut [u8; 512], state: State, record: u64, set: u64, work: &[u8
 pub(crate) fn sum_blocks(
     state: State,
     record: u64,
-    reads: u64,
-    news: u64,
+    graph: u64,
+    mask: u64,
+    x: u64,
     at: usize,
     work: &mut [u8],
 )
-    ensures { λ _. ⌜ now (work .exit) ≡ carried (now (work .entry)) at (blockSum state «record» reads news (now (work .entry))) 0 (state .block) ⌝ }
+    ensures { λ _. ⌜ now (work .exit) ≡ carried (now (work .entry)) at (blockSum state «record» graph mask x (now (work .entry))) 0 (state .block) ⌝ }
 {
     let size = state.block as usize;
     let mut sum = [0u8; 512];
-    add_reads(&mut sum, state, record, reads, work);
-    add_news(&mut sum, state, record, news, work);
+    add_reads(&mut sum, state, record, graph, mask, x, work);
+    add_news(&mut sum, state, record, graph, mask, work);
     carry(work, at, &sum, 0, size);
 }

@@ -6,21 +6,25 @@ use mathlib.Core.Path.{sym, _∙_}
 use borrow.Author.Needs.{needs}
 use denote.Ref.{now}
 use Rattle.geometry.specs.Asked.{writePart}
+use Rattle.graph.specs.Sums.{takesNew}
 use Rattle.array.proofs.Adding.{Added, added-none, added-more, added-pass, added-all}
 use Rattle.array.proofs.sums.add_news.Statement.{statement}
 use Rattle.array.proofs.sums.add_news.Tie as tie
 
 abbrev Inv-loop : tie.InvT-loop
-Inv-loop sum₀ state «record» set work cards p₀ sum p = Added cards set (λ q. writePart state «record» q work) sum₀ sum p
+Inv-loop sum₀ state «record» graph mask work cards p₀ sum p = Added (state .cards) (λ q. takesNew (state .cards - 1) graph mask q) (λ q. writePart state «record» q work) sum₀ sum p
 
 abbrev μ-loop : tie.MeasureT-loop
-μ-loop sum₀ state «record» set work cards p₀ sum p = cards - p
+μ-loop sum₀ state «record» graph mask work cards p₀ sum p = state .cards - p
 
 loop-holds : tie.Need-loop-holds Inv-loop μ-loop
 loop-holds c = added-none _ _ _ _
 
-has-requires : tie.Need-has-requires Inv-loop μ-loop
-has-requires c κs = search needs
+sub-takes-new : tie.Need-sub-takes-new Inv-loop μ-loop
+sub-takes-new c = search needs
+
+takes-new-requires : tie.Need-takes-new-requires Inv-loop μ-loop
+takes-new-requires c κs = search needs
 
 write-block-requires : tie.Need-write-block-requires Inv-loop μ-loop
 write-block-requires c κs = search needs
@@ -37,7 +41,7 @@ loop-less c = search needs
 loop-again : tie.Need-loop-again Inv-loop μ-loop
 loop-again c =
     let k = c .before .before .before .loop in
-    let in-set = c .before .has .ensures in
+    let in-set = c .before .takes-new .ensures in
     ⊎-elim
     (λ w.
     rw (w .4)
@@ -56,7 +60,8 @@ add-news-spec =
     Inv-loop
     μ-loop
     loop-holds
-    has-requires
+    sub-takes-new
+    takes-new-requires
     write-block-requires
     add-requires
     add-p

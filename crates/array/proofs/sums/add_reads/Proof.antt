@@ -6,21 +6,25 @@ use mathlib.Core.Path.{sym, _∙_}
 use borrow.Author.Needs.{needs}
 use denote.Ref.{now}
 use Rattle.geometry.specs.Asked.{readPart}
+use Rattle.graph.specs.Sums.{takesRead}
 use Rattle.array.proofs.Adding.{Added, added-none, added-more, added-pass, added-all}
 use Rattle.array.proofs.sums.add_reads.Statement.{statement}
 use Rattle.array.proofs.sums.add_reads.Tie as tie
 
 abbrev Inv-loop : tie.InvT-loop
-Inv-loop sum₀ state «record» set work cards p₀ sum p = Added cards set (λ q. readPart state «record» q work) sum₀ sum p
+Inv-loop sum₀ state «record» graph mask x work cards p₀ sum p = Added (state .cards) (λ q. takesRead (state .cards - 1) graph mask x q) (λ q. readPart state «record» q work) sum₀ sum p
 
 abbrev μ-loop : tie.MeasureT-loop
-μ-loop sum₀ state «record» set work cards p₀ sum p = cards - p
+μ-loop sum₀ state «record» graph mask x work cards p₀ sum p = state .cards - p
 
 loop-holds : tie.Need-loop-holds Inv-loop μ-loop
 loop-holds c = added-none _ _ _ _
 
-has-requires : tie.Need-has-requires Inv-loop μ-loop
-has-requires c κs = search needs
+sub-takes-read : tie.Need-sub-takes-read Inv-loop μ-loop
+sub-takes-read c = search needs
+
+takes-read-requires : tie.Need-takes-read-requires Inv-loop μ-loop
+takes-read-requires c κs = search needs
 
 read-block-requires : tie.Need-read-block-requires Inv-loop μ-loop
 read-block-requires c κs = search needs
@@ -37,7 +41,7 @@ loop-less c = search needs
 loop-again : tie.Need-loop-again Inv-loop μ-loop
 loop-again c =
     let k = c .before .before .before .loop in
-    let in-set = c .before .has .ensures in
+    let in-set = c .before .takes-read .ensures in
     ⊎-elim
     (λ w.
     rw (w .4)
@@ -56,7 +60,8 @@ add-reads-spec =
     Inv-loop
     μ-loop
     loop-holds
-    has-requires
+    sub-takes-read
+    takes-read-requires
     read-block-requires
     add-requires
     add-p

@@ -45,7 +45,7 @@ returns c =
     c .before .before .carry .ensures
     ∙ ap (λ (s : List ℕ). carried (now (a .work)) (a .at) s 0 (a .state .block))
     (c .before .before .before .before .before .add-news .ensures
-    ∙ ap (summed (a .state .cards) (newIf (a .state) (a .«record») (a .news) (now (a .work))))
+    ∙ ap (summed (a .state .cards) (newIf (a .state) (a .«record») (a .graph) (a .mask) (now (a .work))))
     (c .before .before .before .before .before .before .before .before .add-reads .ensures))
 
 pub sum-blocks-spec : {M : Type 1} → statement M
