@@ -7,4 +7,5 @@ pub mod Rank
 pub mod Turns
 pub mod Units
 pub mod Adding
+pub mod Performed
 pub mod Kept

@@ -4,4 +4,5 @@
 mod admits;
 pub mod answers;
 mod collects;
+mod performs;
 mod sums;
