@@ -8,4 +8,5 @@ pub mod Turns
 pub mod Units
 pub mod Adding
 pub mod Performed
+pub mod Within
 pub mod Kept
