@@ -1,6 +1,6 @@
 -- Placement without a sum that could wrap: which card and which position, by whether the stripe's turn passes the last card.
 -- Assumes nothing.
-use Prim.Native.Nat.{ℕ, zero, zero-le, _+_, _-_, _%_, _≤_, _<_}
+use Prim.Native.Nat.{ℕ, zero-le, _+_, _-_, _%_, _≤_, _<_}
 use mathlib.Core.Path.{_≡_, ap, _∙_}
 use native.Mathlib.Nat.{lt-of-le-of-lt, mod-lt, mod-eq-of-lt, add-mod-left}
 use native.Mathlib.Omega.{arith}
