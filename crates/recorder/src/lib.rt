@@ -2,7 +2,6 @@
 // Assumes nothing.
 ghost use mathlib.Core.Path.{_≡_};
 ghost use Prim.Native.Nat.{_<_, _^_};
-ghost use Rattle.terms.specs.Reply.{Reply};
 ghost use Rattle.geometry.specs.Answers.{placeReply, blockAtReply};
 ghost use Rattle.recorder.specs.Packing.{packed};
 use geometry::Geometry;

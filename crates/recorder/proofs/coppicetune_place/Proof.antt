@@ -1,6 +1,5 @@
 -- `recorder::coppicetune_place` meets its contract: each answer is packed by its number and values.
 -- Assumes nothing.
-use Prim.Native.Nat.{ℕ}
 use mathlib.Core.Path.{_≡_, ap, sym, _∙_}
 use native.Mathlib.Omega.{arith}
 use borrow.Author.Needs.{needs}
