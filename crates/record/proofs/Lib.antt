@@ -1,3 +1,4 @@
 -- Laws of records and tables, by subject.
 pub mod Same
 pub mod Marks
+pub mod Zero

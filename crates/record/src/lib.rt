@@ -2,8 +2,10 @@
 // Assumes nothing.
 pub use life::admitted;
 pub use life::free;
+pub use sound::legal_mask;
 
 mod life;
+mod sound;
 
 // A request record. A free one is all zero.
 #[repr(C)]

@@ -1,0 +1,144 @@
+// When a record is sound, clause by clause.
+ghost use mathlib.Core.Bool.{Bool, cond, not, _&&_};
+ghost use mathlib.Core.Path.{_≡_};
+ghost use Prim.Native.Nat.{_+_, _*_, _≤_};
+ghost use lib.Dec.{leb, eqb};
+ghost use Rattle.record.specs.Asked.{soundRecordIn};
+ghost use Rattle.record.specs.Sound.{allZero, legalMask, legalRecord, legalChosen, clash, holds};
+use crate::Record;
+use crate::life::units;
+use geometry::NONE;
+use geometry::State;
+
+// A legal mask of n units: not zero, and no bit at n or above.
+pub fn legal_mask(n: u64, mask: u64) -> bool
+    ensures { λ r. ⌜ r ≡ legalMask n mask ⌝ }
+{
+    if mask == 0 {
+        return false;
+    }
+    if n > 63 {
+        return true;
+    }
+    mask < 1 << n
+}
+
+// An open one lacks a step and counts at most 2n+2, a finished one lacks none and counts at most 2n+3.
+fn right_count(n: u64, open: bool, lacks_none: bool, count: u64) -> bool
+    requires { ⌜ n ≤ 7 ⌝ }
+    ensures { λ r. ⌜ r ≡ cond «open» (not «lacks_none» && leb count (2 * n + 2)) («lacks_none» && leb count (2 * n + 3)) ⌝ }
+{
+    if open {
+        if lacks_none {
+            return false;
+        }
+        return count <= 2 * n + 2;
+    }
+    if !lacks_none {
+        return false;
+    }
+    count <= 2 * n + 3
+}
+
+impl Record {
+    // Every number of the record is zero.
+    fn all_zero(self) -> bool
+        ensures { λ r. ⌜ r ≡ allZero self ⌝ }
+    {
+        (self.phase
+            | self.write
+            | self.stripe
+            | self.mask
+            | self.graph
+            | self.chosen
+            | self.done
+            | self.count)
+            == 0
+    }
+
+    // Open or finished, with a legal kind, stripe, mask and graph.
+    fn is_legal(self, state: State) -> bool
+        ensures { λ r. ⌜ r ≡ legalRecord state self ⌝ }
+    {
+        if self.phase == 0 {
+            return false;
+        }
+        if self.phase > 2 {
+            return false;
+        }
+        if self.write > 1 {
+            return false;
+        }
+        if self.stripe >= state.stripes {
+            return false;
+        }
+        if !legal_mask(units(state), self.mask) {
+            return false;
+        }
+        if self.graph == 0 {
+            return false;
+        }
+        self.graph <= 6
+    }
+
+    // Its chosen-with card is 255 or the card that is missing in its stripe.
+    fn legal_chosen(self, state: State) -> bool
+        ensures { λ r. ⌜ r ≡ legalChosen state self ⌝ }
+    {
+        if self.chosen == NONE {
+            return true;
+        }
+        self.chosen == state.out_in(self.stripe)
+    }
+
+    // The record is sound.
+    pub fn is_sound(self, state: State) -> bool
+        ensures { λ r. ⌜ r ≡ soundRecordIn state self ⌝ }
+    {
+        let n = units(state);
+        if n > 7 {
+            return false;
+        }
+        if self.phase == 0 {
+            return self.all_zero();
+        }
+        if !self.is_legal(state) {
+            return false;
+        }
+        if !self.legal_chosen(state) {
+            return false;
+        }
+        let x = self.chosen_at(state);
+        if self.graph != graph::choose(n, self.write == 1, self.mask, x) {
+            return false;
+        }
+        if !graph::closed(n, self.graph, self.mask, x, self.done) {
+            return false;
+        }
+        let lacks_none = graph::complete(n, self.graph, self.mask, x, self.done);
+        right_count(n, self.phase == 1, lacks_none, self.count)
+    }
+
+    // The two records are open on one stripe.
+    pub(crate) fn clashes(self, other: Record) -> bool
+        ensures { λ r. ⌜ r ≡ clash self other ⌝ }
+    {
+        if self.phase != 1 {
+            return false;
+        }
+        if other.phase != 1 {
+            return false;
+        }
+        self.stripe == other.stripe
+    }
+
+    // The record is open on the stripe.
+    pub(crate) fn holds(self, stripe: u64) -> bool
+        ensures { λ r. ⌜ r ≡ holds stripe self ⌝ }
+    {
+        if self.phase != 1 {
+            return false;
+        }
+        self.stripe == stripe
+    }
+}
