@@ -9,3 +9,4 @@ pub mod Scan
 pub mod Answers
 pub mod Premises
 pub mod Sums
+pub mod Outcomes

@@ -15,9 +15,9 @@ use block::carry;
 use geometry::State;
 use geometry::card_at;
 use geometry::missing_at;
-use graph::steps::Action;
-use graph::steps::step_of;
-use graph::sums::sums_to_read;
+use graph::Action;
+use graph::step_of;
+use graph::sums_to_read;
 use record::Record;
 
 // Copies the card's block of a position to the record's read block.

@@ -6,8 +6,8 @@ ghost use Rattle.block.specs.Blocks.{summed, carried};
 use block::add;
 use block::carry;
 use geometry::State;
-use graph::sums::takes_new;
-use graph::sums::takes_read;
+use graph::takes_new;
+use graph::takes_read;
 
 // Adds the read blocks that a record's graph takes.
 fn add_reads(
