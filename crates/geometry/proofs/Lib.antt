@@ -8,4 +8,5 @@ pub mod Grid
 pub mod Apart
 pub mod Bounds
 pub mod Asked
+pub mod Lengths
 pub mod Flags

@@ -1,7 +1,7 @@
 -- What a state answers of its sizes and blocks, whatever its numbers are: 0, or no byte, where there is no such block.
 -- Assumes nothing.
 use Prim.Native.Nat.{ℕ}
-use mathlib.Core.Bool.{Bool, cond, not, _&&_}
+use mathlib.Core.Bool.{cond, not, _&&_}
 use mathlib.Core.List.{List, []}
 use Rattle.terms.specs.Lists.{part}
 use Rattle.geometry.specs.Store.{imageSize, workSize, cellAt, writeAt, readAt, imageWrong, workWrong, legalState, inImage, inWork}
