@@ -13,5 +13,7 @@ pub mod Kept
 pub mod Ends
 pub mod Sizes
 pub mod Counts
+pub mod Opens
+pub mod Alike
 pub mod Bytes
 pub mod NeverAgain
