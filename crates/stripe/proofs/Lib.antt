@@ -15,5 +15,9 @@ pub mod Sizes
 pub mod Counts
 pub mod Opens
 pub mod Alike
+pub mod Heart
+pub mod Runs
 pub mod Bytes
+pub mod Computing
+pub mod Reached
 pub mod NeverAgain
