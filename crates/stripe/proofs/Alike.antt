@@ -1,15 +1,14 @@
 -- What the missing position holds is never asked: two stripes that differ there alone stay so through a step.
 -- Assumes nothing.
-use Prim.Native.Nat.{ℕ, suc, _≤_}
+use Prim.Native.Nat.{ℕ, suc}
 use mathlib.Core.Bool.{Bool, true, false, cond}
-use mathlib.Core.Logic.{_⊎_, inl, inr}
-use mathlib.Core.Path.{_≡_, refl, sym, ap, ap₂, subst, _∙_}
+use mathlib.Core.Path.{_≡_, ap, ap₂, subst}
 use lib.Dec.{eqb}
 use Rattle.graph.specs.Order.{ready}
-use Rattle.graph.specs.Steps.{Step, rd, xr, wr, stepOf, reads}
+use Rattle.graph.specs.Steps.{Step, rd, stepOf, reads}
 use Rattle.graph.specs.Sums.{takesNew, sumsToRead}
-use Rattle.stripe.specs.Blocks.{Blocks, On, by-read, by-write, Alike, changed, total, performed}
-use Rattle.stripe.specs.Group.{Group, sumTo}
+use Rattle.stripe.specs.Blocks.{Blocks, On, by-read, Alike, changed, total, performed}
+use Rattle.stripe.specs.Group.{Group}
 use Rattle.stripe.specs.Request.{Request}
 use Rattle.stripe.proofs.Readied.{Kind, a-read, a-sum, a-write, readied}
 use Rattle.stripe.proofs.Sums.{sum-cong}

@@ -1,4 +1,5 @@
 -- Why a stripe loses nothing, by subject.
+pub mod Acts
 pub mod Sums
 pub mod Chosen
 pub mod Tally

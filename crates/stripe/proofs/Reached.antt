@@ -6,7 +6,7 @@ use mathlib.Core.Bool.{true}
 use mathlib.Core.Path.{_≡_, refl}
 use native.Mathlib.Omega.{arith}
 use Rattle.graph.specs.Steps.{xr, wr}
-use Rattle.stripe.specs.Blocks.{Blocks, On, by-read, by-write}
+use Rattle.stripe.specs.Blocks.{Blocks, On, by-write}
 use Rattle.stripe.specs.Group.{sumTo}
 use Rattle.stripe.specs.Invariant.{Idle, IsRow}
 use Rattle.stripe.specs.Request.{Request, finished, begun}

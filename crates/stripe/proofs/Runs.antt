@@ -9,7 +9,7 @@ use Rattle.stripe.specs.Group.{Group, sumTo, others}
 use Rattle.stripe.specs.Invariant.{Proper, Idle, Faithful, rowAfter}
 use Rattle.stripe.specs.Request.{Request, readyAt, finished, begun, advanced, chosenAfresh}
 use Rattle.stripe.specs.Run.{Run, admitted, stepped, afresh, failed, decayed}
-use Rattle.stripe.proofs.Heart.{Numbers, numbers, Heart, heart}
+use Rattle.stripe.proofs.Heart.{numbers, heart}
 
 module _ (G : Group) (n : ℕ) (write : Bool) (mask : ℕ) (R new : ℕ → G .carrier) where
   -- at the end of a run, position x missing, the request's numbers q and the blocks b

@@ -1,7 +1,7 @@
 -- What a stripe and a request's work store hold, by position, and what a done step does to them.
 -- Assumes nothing.
 use Prim.Native.Nat.{ℕ, suc, _≤_}
-use mathlib.Core.Bool.{Bool, cond}
+use mathlib.Core.Bool.{cond}
 use mathlib.Core.Path.{_≡_}
 use lib.Dec.{eqb}
 use Rattle.graph.specs.Steps.{Step, rd, xr, wr, nil}
