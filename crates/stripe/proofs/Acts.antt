@@ -1,16 +1,21 @@
--- Document 01, "Steps and what must come before", the last part: what a step does to the blocks, and that it alters nothing else.
+-- Document 01, "Steps and what must come before", the last part: what a step does to the blocks, and that it
+-- alters nothing else; and what it and a fresh choice make of the request's numbers.
 -- Assumes nothing.
-use Prim.Native.Nat.{ℕ}
-use mathlib.Core.Bool.{true}
-use mathlib.Core.List.{List, [], _∷_}
+use Prim.Native.Nat.{ℕ, _+_}
+use mathlib.Core.Bool.{true, false}
+use mathlib.Core.List.{[], _∷_}
 use mathlib.Core.Path.{_≡_, refl}
 use lib.ListN.{getD}
 use borrow.Author.Tests.{eq-eqb, ne-eqb}
-use Rattle.graph.specs.Steps.{rd, xr, wr}
+use Rattle.terms.specs.Sets.{bit}
+use Rattle.terms.proofs.Bits.{bit-none, bit-add-same}
+use Rattle.graph.specs.Choice.{choose}
+use Rattle.graph.specs.Steps.{Step, rd, xr, wr, numberOf}
 use Rattle.graph.specs.Sums.{sumsToRead}
 use Rattle.stripe.specs.Blocks.{Blocks, changed, total, performed}
 use Rattle.stripe.specs.Group.{Group}
-use Rattle.stripe.specs.Request.{Request, begun}
+use Rattle.stripe.specs.Invariant.{isDone}
+use Rattle.stripe.specs.Request.{Request, begun, advanced, chosenAfresh}
 use Rattle.stripe.proofs.Bytes.{bytes}
 use Rattle.stripe.proofs.Computing.{computing}
 
@@ -50,6 +55,29 @@ module _ (G : Group) (n : ℕ) (q : Request) (b : Blocks (G .carrier)) where
   pub write-keeps : (p : ℕ) → (performed G n q (wr p) b .got ≡ b .got) × (performed G n q (wr p) b .new ≡ b .new)
   unfolding performed
   write-keeps p = (refl, refl)
+
+-- a done step is marked, and counted
+pub step-marks : (q : Request) (k : ℕ) → bit k (q .done) ≡ false → bit k (advanced q k .done) ≡ true
+unfolding advanced
+step-marks q k h = bit-add-same k (q .done) h
+
+pub step-counts : (q : Request) (k : ℕ) → advanced q k .count ≡ q .count + 1
+unfolding advanced
+step-counts q k = refl
+
+-- a fresh choice is the table's for the position that is missing now; it forgets the done steps, and is counted
+pub afresh-chooses : (n : ℕ) (q : Request) (x : ℕ)
+    → (chosenAfresh n q x .graph ≡ choose n (q .write) (q .mask) x) × (chosenAfresh n q x .missed ≡ x)
+unfolding chosenAfresh
+afresh-chooses n q x = (refl, refl)
+
+pub afresh-forgets : (n : ℕ) (q : Request) (x : ℕ) (s : Step) → isDone n (chosenAfresh n q x) s ≡ false
+unfolding chosenAfresh isDone
+afresh-forgets n q x s = bit-none (numberOf n s)
+
+pub afresh-counts : (n : ℕ) (q : Request) (x : ℕ) → chosenAfresh n q x .count ≡ q .count + 1
+unfolding chosenAfresh
+afresh-counts n q x = refl
 
 -- ---- N = 4, units 11, 22, 44
 

@@ -2,17 +2,16 @@
 -- Assumes nothing.
 use Prim.Native.Nat.{ℕ, _+_, _^_, _≤_, _<_}
 use mathlib.Core.Bool.{Bool, true, false, not, _||_}
-use mathlib.Core.Logic.{_⊎_, inl, inr}
 use mathlib.Core.Path.{_≡_, refl, sym, ap, _∙_}
 use native.Mathlib.Omega.{arith}
-use lib.Pow.{pow-pos}
-use borrow.Author.Tests.{lt-ltb, ne-eqb, not-true, not-false}
-use Rattle.terms.specs.Sets.{bit, allBelow}
-use Rattle.terms.proofs.Bits.{bit-none, bit-ext}
-use Rattle.terms.proofs.Rows.{true≢false, truth}
-use Rattle.terms.proofs.Sets.{allBelow-elim, allBelow-fail, allBelow-fails}
+use borrow.Author.Tests.{lt-ltb, ne-eqb}
+use Rattle.terms.specs.Sets.{bit}
+use Rattle.terms.proofs.Bits.{bit-none}
+use Rattle.terms.proofs.Rows.{true≢false}
+use Rattle.terms.proofs.Sets.{allBelow-fail}
 use Rattle.graph.specs.Order.{complete}
 use Rattle.graph.specs.Steps.{stepOf, stepNumbers, byGraph, masked, reads, sums, writes, member}
+use Rattle.graph.proofs.Rules.{some-bit}
 use Rattle.graph.proofs.Numbers.{stepOf-read, stepOf-sum, stepOf-write}
 use Rattle.stripe.specs.Invariant.{Proper}
 use Rattle.stripe.specs.Request.{Request}
@@ -22,18 +21,7 @@ use Rattle.stripe.proofs.Places.{masked-below}
 -- a legal mask has a unit
 pub some-masked : (n mask : ℕ) → ¬ (mask ≡ 0) → mask < 2 ^ n → (p : ℕ) × (masked n mask p ≡ true)
 unfolding masked
-some-masked n mask h l = go (truth (allBelow n (λ i. not (bit i mask))))
-  where
-    go : (allBelow n (λ i. not (bit i mask)) ≡ true) ⊎ (allBelow n (λ i. not (bit i mask)) ≡ false)
-        → (p : ℕ) × (masked n mask p ≡ true)
-    go (inl e) =
-        absurd
-        (h
-        (bit-ext n mask 0 l (pow-pos n)
-        (λ i k. not-true (bit i mask) (allBelow-elim n (λ i. not (bit i mask)) e i k) ∙ sym (bit-none i))))
-    go (inr e) =
-        let w = allBelow-fails n (λ i. not (bit i mask)) e in
-        (w .0, rw (lt-ltb (w .0) n (w .1)) (not-false (bit (w .0) mask) (w .2)))
+some-masked n mask h l = let w = some-bit n mask l h in (w .0, rw (lt-ltb (w .0) n (w .1)) (w .2))
 
 module _ (n mask x : ℕ) where
   wanting : (g k : ℕ) → k < stepNumbers n → member n g mask x (stepOf n k) ≡ true → complete n g mask x 0 ≡ false
