@@ -7,3 +7,5 @@ pub mod Invariant
 pub mod Gather
 pub mod Turn
 pub mod Collect
+pub mod Fresh
+pub mod Records
