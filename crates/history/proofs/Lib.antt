@@ -9,3 +9,4 @@ pub mod Turn
 pub mod Collect
 pub mod Fresh
 pub mod Records
+pub mod Admit
