@@ -10,3 +10,4 @@ pub mod Collect
 pub mod Fresh
 pub mod Records
 pub mod Admit
+pub mod View
