@@ -11,3 +11,4 @@ pub mod Fresh
 pub mod Records
 pub mod Admit
 pub mod View
+pub mod Step
