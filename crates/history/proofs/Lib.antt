@@ -12,3 +12,4 @@ pub mod Records
 pub mod Admit
 pub mod View
 pub mod Step
+pub mod Done
