@@ -15,7 +15,6 @@ use Rattle.terms.specs.Sets.{bit}
 use Rattle.terms.proofs.Lists.{length-part, getD-part}
 use Rattle.terms.proofs.Rows.{true≢false}
 use Rattle.geometry.proofs.Apart.{read-inside}
-use Rattle.geometry.proofs.Places.{left-symmetric}
 use Rattle.geometry.specs.Placement.{blockOf}
 use Rattle.geometry.specs.Store.{readAt}
 use Rattle.geometry.specs.declared.State.{State}
@@ -41,6 +40,7 @@ use Rattle.history.specs.Row.{unitsOfRow}
 use Rattle.history.specs.World.{World}
 use Rattle.history.proofs.Gather.{gathered-cong}
 use Rattle.history.proofs.Invariant.{Matches, Working, Resting, Sure, requestOf, viewOf}
+use Rattle.history.proofs.Placed.{layout}
 use Rattle.history.proofs.Near.{faithful-near, two-below}
 use Rattle.history.proofs.Places.{block-below}
 use Rattle.history.proofs.Records.{stepped-fit, request-advanced}
@@ -89,7 +89,7 @@ module _ (w : World) (a : Account) (sure : Sure w a) (i k : ℕ) (ok : Ready (w 
   standing : Standing st (w .work) (w .image) i r
   standing =
       record {
-        placing = left-symmetric (st .cards) some-card;
+        placing = layout (st .cards) some-card;
         some-card = some-card;
         image-right = sure .right .image-right;
         work-right = sure .right .work-right;

@@ -13,3 +13,6 @@ pub mod Admit
 pub mod View
 pub mod Step
 pub mod Done
+pub mod Report
+pub mod Placed
+pub mod Decay
