@@ -16,3 +16,5 @@ pub mod Done
 pub mod Report
 pub mod Placed
 pub mod Decay
+pub mod Positions
+pub mod ReadOff
