@@ -18,3 +18,5 @@ pub mod Placed
 pub mod Decay
 pub mod Positions
 pub mod ReadOff
+pub mod Parities
+pub mod Opened
