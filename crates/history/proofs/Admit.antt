@@ -129,11 +129,11 @@ module _ (w : World) (a : Account) (sure : Sure w a) (write : Bool) (s mask : �
       let as-made = sym (request-begun (w .state) write s mask) in
       record {
         proper = subst (λ (q : Request). Proper n x q) as-made
-        (begun-proper n x write mask (mask-some n mask (ok .mask-legal)) (mask-units n mask (ok .mask-legal)));
+            (begun-proper n x write mask (mask-some n mask (ok .mask-legal)) (mask-units n mask (ok .mask-legal)));
         faithful = λ b hb.
-          subst (λ (q : Request). Faithful bytes n x q (rowOf (w .state) (a .row) s b)
-          (rowOf (w .state) (afterRow (w .state) (a .row) entry) s b) (viewOf (w .state) stored (w .image) place s b)) as-made
-          (working-begun b hb);
+            subst (λ (q : Request). Faithful bytes n x q (rowOf (w .state) (a .row) s b)
+            (rowOf (w .state) (afterRow (w .state) (a .row) entry) s b) (viewOf (w .state) stored (w .image) place s b)) as-made
+            (working-begun b hb);
       }
 
   matches-made : Matches (w .state) made entry
@@ -167,7 +167,7 @@ module _ (w : World) (a : Account) (sure : Sure w a) (write : Bool) (s mask : �
         old-here = λ o. true≢false (sym o ∙ free-not-open (recordAt w place) was-free);
         new-here = λ o. refl;
         alone = λ j h d o e.
-          holds-elim s (recordAt w j) (held-elim (w .table) s (ok .not-held) j (omega (arith, sure .right .table-right))) o (sym e);
+            holds-elim s (recordAt w j) (held-elim (w .table) s (ok .not-held) j (omega (arith, sure .right .table-right))) o (sym e);
         own-sound = fit-sound (w .state) made (admitted-fit (w .state) write s mask (ok .stripe-below) (ok .mask-legal));
         own-entry = λ f. matches-made;
         own-working = λ o. working-made;

@@ -44,8 +44,8 @@ module _ (w : World) (a : Account) (sure : Sure w a) (i : ℕ) (result : List �
         old-here = λ o. true≢false (sym o ∙ finished-not-open (recordAt w i) (ok .is-finished));
         new-here = λ o. true≢false (sym o);
         alone = λ j h d o e.
-          let f = fit (w .state) (recordAt w j) (sound-elim (w .state) (w .table) (sure .right .is-sound) .each j (omega (arith, sure .right .table-right))) (open-not-free (recordAt w j) o) in
-          omega (arith, f .stripe-below);
+            let f = fit (w .state) (recordAt w j) (sound-elim (w .state) (w .table) (sure .right .is-sound) .each j (omega (arith, sure .right .table-right))) (open-not-free (recordAt w j) o) in
+            omega (arith, f .stripe-below);
         own-sound = free-sound (w .state);
         own-entry = λ e. true≢false e;
         own-working = λ o. true≢false (sym o);

@@ -45,8 +45,8 @@ module _ (w : World) (a : Account) (sure : Sure w a) (image′ : List ℕ) (deca
       record {
         proper = was .proper;
         faithful = λ b hb.
-          decayed-faithful bytes (unitsOf st) (missingIn st (r .stripe)) _ _ _ _ (cellsOf st image′ (r .stripe) b)
-          (λ p l d. same-cell (r .stripe) b p hs hb l d) (was .faithful b hb);
+            decayed-faithful bytes (unitsOf st) (missingIn st (r .stripe)) _ _ _ _ (cellsOf st image′ (r .stripe) b)
+            (λ p l d. same-cell (r .stripe) b p hs hb l d) (was .faithful b hb);
       }
 
   pub decay-sure : Sure (record { state = st; table = w .table; work = w .work; image = image′ }) a
@@ -63,8 +63,8 @@ module _ (w : World) (a : Account) (sure : Sure w a) (image′ : List ℕ) (deca
         row-size = sure .row-size;
         entries = sure .entries;
         resting = λ s h free-now b hb.
-          decayed-idle bytes (unitsOf st) (missingIn st s) _ _ (cellsOf st image′ s b) (λ p l d. same-cell s b p h hb l d)
-          (sure .resting s h free-now b hb);
+            decayed-idle bytes (unitsOf st) (missingIn st s) _ _ (cellsOf st image′ s b) (λ p l d. same-cell s b p h hb l d)
+            (sure .resting s h free-now b hb);
         working = works;
         read = sure .read;
       }

@@ -20,3 +20,4 @@ pub mod Positions
 pub mod ReadOff
 pub mod Parities
 pub mod Opened
+pub mod Events

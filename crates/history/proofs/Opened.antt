@@ -122,8 +122,8 @@ module _ (g : Geometry) (out : ℕ) (table : List Record) (work image : List ℕ
           row-size = opened-size st image (omega (arith, bounds .cards-low)) (layout (g .cards) (omega (arith, bounds .cards-low))) (tests .image-right);
           entries = λ i h f. true≢false (rw (all-free i (omega (arith, tests .table-right))) at f);
           resting = λ s h free-now b hb.
-            opened-rests st image (omega (arith, bounds .cards-low)) (layout (g .cards) (omega (arith, bounds .cards-low))) (tests .image-right) s b hb
-            (right-parity s b h hb);
+              opened-rests st image (omega (arith, bounds .cards-low)) (layout (g .cards) (omega (arith, bounds .cards-low))) (tests .image-right) s b hb
+              (right-parity s b h hb);
           working = λ i h o. true≢false (sym (rw (all-free i (omega (arith, tests .table-right))) at o));
           read = λ i h f r. true≢false (sym (rw (all-free i (omega (arith, tests .table-right))) at f));
         }

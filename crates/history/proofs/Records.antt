@@ -72,8 +72,8 @@ admitted-fit st write s mask h m =
       right-graph = eq-eqb (choose (unitsOf st) write mask (missingIn st s)) _ (ap (λ (w : Bool). choose (unitsOf st) w mask (missingIn st s)) (sym (same write)));
       right-steps = closed-none (unitsOf st) (choose (unitsOf st) write mask (missingIn st s)) mask (missingIn st s);
       right-count = and-both _ (leb 0 (2 * unitsOf st + 2))
-      (ap not (fresh-wanting (unitsOf st) mask (missingIn st s) (mask-some (unitsOf st) mask m) (mask-units (unitsOf st) mask m) write))
-      (le-leb 0 (2 * unitsOf st + 2) (omega arith));
+          (ap not (fresh-wanting (unitsOf st) mask (missingIn st s) (mask-some (unitsOf st) mask m) (mask-units (unitsOf st) mask m) write))
+          (le-leb 0 (2 * unitsOf st + 2) (omega arith));
     }
   where
     kind : (w : Bool) → within 0 1 (cond w 1 0) ≡ true
@@ -123,5 +123,5 @@ afresh-fit st r x f p =
       right-graph = eq-eqb (choose (unitsOf st) (isWrite r) (r .mask) y) (choose (unitsOf st) (isWrite r) (r .mask) y) refl;
       right-steps = closed-none (unitsOf st) (choose (unitsOf st) (isWrite r) (r .mask) y) (r .mask) y;
       right-count = and-both _ (leb (r .count + 1) (2 * unitsOf st + 2)) (ap not wanting)
-      (le-leb (r .count + 1) (2 * unitsOf st + 2) (open-bound (unitsOf st) x (requestOf st (afresh st r)) p wanting));
+          (le-leb (r .count + 1) (2 * unitsOf st + 2) (open-bound (unitsOf st) x (requestOf st (afresh st r)) p wanting));
     }

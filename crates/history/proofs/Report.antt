@@ -127,7 +127,7 @@ module _ (w : World) (a : Account) (sure : Sure w a) (c : ℕ) (none-out : w .st
         row-size = sure .row-size;
         entries = λ i h f. matches-out (recordAt w i) (a .entry i) (sure .entries i h f);
         resting = λ s h free-now b hb.
-          failed-idle bytes (unitsOf st) (missingIn st s) (missingIn out s) _ _ (sure .resting s h free-now b hb) (none-missing s);
+            failed-idle bytes (unitsOf st) (missingIn st s) (missingIn out s) _ _ (sure .resting s h free-now b hb) (none-missing s);
         working = λ i h o. works-out i (recordAt w i) (sure .working i h o);
         read = sure .read;
       }

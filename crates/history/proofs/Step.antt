@@ -148,7 +148,7 @@ module _ (w : World) (a : Account) (sure : Sure w a) (i k : ℕ) (ok : Ready (w 
         record {
           proper = proper;
           faithful = λ b hb.
-            afresh-faithful bytes n x (requestOf (w .state) r) _ _ _ (works .proper) (works .faithful b hb) x-below k is-ready on-step;
+              afresh-faithful bytes n x (requestOf (w .state) r) _ _ _ (works .proper) (works .faithful b hb) x-below k is-ready on-step;
         }
 
     turn : Turn w a i (r .stripe) chosen (w .work) (w .image) (a .row) (counted (w .state) (a .row) (a .entry i) false)

@@ -117,8 +117,8 @@ module _ (st : State) (l : List Record) where
       record {
         each = λ i h. every-elim (soundRecord st) l i free (and-left (every (soundRecord st) l) (apart l) e) h;
         alone = λ i j hi hj oi oj same.
-          let row = allBelow-elim (length l) _ (and-right (every (soundRecord st) l) (apart l) e) i hi in
-          go i j oi oj same (or-cases (eqb i j) _ (allBelow-elim (length l) _ row j hj));
+            let row = allBelow-elim (length l) _ (and-right (every (soundRecord st) l) (apart l) e) i hi in
+            go i j oi oj same (or-cases (eqb i j) _ (allBelow-elim (length l) _ row j hj));
       }
     where
       go : (i j : ℕ) → isOpen (getD l i free) ≡ true → isOpen (getD l j free) ≡ true → getD l i free .stripe ≡ getD l j free .stripe

@@ -190,19 +190,19 @@ module _ (w : World) (a : Account) (sure : Sure w a) (i s : ℕ) (r′ : Record)
         record {
           proper = sure .working j h o .proper;
           faithful = λ b hb.
-            rw (
-              row-there t b off ht,
-              row-cong (w .state) (afterRow (w .state) (a .row) (a .entry j)) t b (afterRow (w .state) row′ (a .entry j))
-              (λ u hu. after-cong (w .state) (a .row) (a .entry j) row′ (blockOf (w .state .cards) t u) (turn .row-others t u off ht hu)),
-            )
-            (faithful-near bytes (unitsOf (w .state)) (missingIn (w .state) t) (requestOf (w .state) (recordAt w j)) _ _ _ _
-            (two-below (unitsOf (w .state)) (missingIn (w .state) t) (requestOf (w .state) (recordAt w j)) (sure .working j h o .proper))
-            (record {
-              same-cell = λ p l m. turn .cell-others (cardAt (w .state .cards) t p) t b off ht hb;
-              same-got = λ p l. turn .got-others j p b d (position-below p l) hb;
-              same-new = λ p l. turn .new-others j p b d (position-below p l) hb;
-            })
-            (sure .working j h o .faithful b hb));
+              rw (
+                row-there t b off ht,
+                row-cong (w .state) (afterRow (w .state) (a .row) (a .entry j)) t b (afterRow (w .state) row′ (a .entry j))
+                    (λ u hu. after-cong (w .state) (a .row) (a .entry j) row′ (blockOf (w .state .cards) t u) (turn .row-others t u off ht hu)),
+              )
+              (faithful-near bytes (unitsOf (w .state)) (missingIn (w .state) t) (requestOf (w .state) (recordAt w j)) _ _ _ _
+              (two-below (unitsOf (w .state)) (missingIn (w .state) t) (requestOf (w .state) (recordAt w j)) (sure .working j h o .proper))
+              (record {
+                same-cell = λ p l m. turn .cell-others (cardAt (w .state .cards) t p) t b off ht hb;
+                same-got = λ p l. turn .got-others j p b d (position-below p l) hb;
+                same-new = λ p l. turn .new-others j p b d (position-below p l) hb;
+              })
+              (sure .working j h o .faithful b hb));
         }
 
     read-there : (mask : ℕ) → blocksRead (w .state) work′ j mask ≡ blocksRead (w .state) (w .work) j mask
@@ -230,15 +230,15 @@ module _ (w : World) (a : Account) (sure : Sure w a) (i s : ℕ) (r′ : Record)
         };
         row-size = turn .row-size;
         entries = each {P = λ j. j < w .state .records → isFree (recordAt after j) ≡ false → Matches (w .state) (recordAt after j) (noted .entry j)}
-        (λ h f. rw (here, entry-here) (turn .own-entry (rw here at f)))
-        (λ j d h f. rw (there j d, entry-there j d) (sure .entries j h (rw (there j d) at f)));
+            (λ h f. rw (here, entry-here) (turn .own-entry (rw here at f)))
+            (λ j d h f. rw (there j d, entry-there j d) (sure .entries j h (rw (there j d) at f)));
         resting = resting-each;
         working = each {P = λ j. j < w .state .records → isOpen (recordAt after j) ≡ true
-        → Working (w .state) work′ image′ row′ (noted .entry j) j (recordAt after j)}
-        (λ h o. rw (here, entry-here) (turn .own-working (rw here at o)))
-        (λ j d h o. rw (there j d, entry-there j d) (working-there j d h (rw (there j d) at o)));
+            → Working (w .state) work′ image′ row′ (noted .entry j) j (recordAt after j)}
+            (λ h o. rw (here, entry-here) (turn .own-working (rw here at o)))
+            (λ j d h o. rw (there j d, entry-there j d) (working-there j d h (rw (there j d) at o)));
         read = each {P = λ j. j < w .state .records → isFinished (recordAt after j) ≡ true → isWrite (recordAt after j) ≡ false
-        → blocksRead (w .state) work′ j (recordAt after j .mask) ≡ noted .entry j .due}
-        (λ h f g. rw (here, entry-here) (turn .own-read (rw here at f) (rw here at g)))
-        (λ j d h f g. rw (there j d, entry-there j d) (read-there j d h (recordAt w j .mask) ∙ sure .read j h (rw (there j d) at f) (rw (there j d) at g)));
+            → blocksRead (w .state) work′ j (recordAt after j .mask) ≡ noted .entry j .due}
+            (λ h f g. rw (here, entry-here) (turn .own-read (rw here at f) (rw here at g)))
+            (λ j d h f g. rw (there j d, entry-there j d) (read-there j d h (recordAt w j .mask) ∙ sure .read j h (rw (there j d) at f) (rw (there j d) at g)));
       }

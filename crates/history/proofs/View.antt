@@ -61,8 +61,8 @@ module _ (st : State) (work image : List ℕ) (i : ℕ) (r : Record) (at : Stand
       record {
         same-cell = λ q l d. unfold imageAfter in refl;
         same-got = λ q l. at-place (before .got) (seen (rd p) .got) p (before .cell p) q
-          (λ e. rw e (read-got st work image i r at p b hp hb))
-          (λ d. read-got-other st work image i r at p i q b hp (small q l) hb (λ f g. d (sym g)));
+            (λ e. rw e (read-got st work image i r at p b hp hb))
+            (λ d. read-got-other st work image i r at p i q b hp (small q l) hb (λ f g. d (sym g)));
         same-new = λ q l. read-new st work image i r at p i q b hp (small q l) hb;
       }
 
@@ -71,9 +71,9 @@ module _ (st : State) (work image : List ℕ) (i : ℕ) (r : Record) (at : Stand
   write-near x p hp =
       record {
         same-cell = λ q l d. at-place (before .cell) (seen (wr p) .cell) p (before .new p) q
-          (λ e. rw e (write-cell st work image i r at p b hp hb))
-          (λ d. write-cell-other st work image i r at p (cardAt (st .cards) (r .stripe) q) (r .stripe) b hp (at .stripe-below) hb
-          (λ f g. d (sym (one-position (at .placing) (r .stripe) p q hp (small q l) f))));
+            (λ e. rw e (write-cell st work image i r at p b hp hb))
+            (λ d. write-cell-other st work image i r at p (cardAt (st .cards) (r .stripe) q) (r .stripe) b hp (at .stripe-below) hb
+            (λ f g. d (sym (one-position (at .placing) (r .stripe) p q hp (small q l) f))));
         same-got = λ q l. unfold workAfter in refl;
         same-new = λ q l. unfold workAfter in refl;
       }
@@ -92,8 +92,8 @@ module _ (st : State) (work image : List ℕ) (i : ℕ) (r : Record) (at : Stand
           record {
             same-cell = λ q l d. unfold imageAfter in refl;
             same-got = λ q l. at-place (before .got) (seen xr .got) (chosenAt st r) (total bytes (unitsOf st) (requestOf st r) before) q
-              (λ f. rw f (inferred-got st work image i r at e b hb ∙ sum-same))
-              (λ d. inferred-got-other st work image i r at e i q b (small q l) hb (λ f g. d (sym g)));
+                (λ f. rw f (inferred-got st work image i r at e b hb ∙ sum-same))
+                (λ d. inferred-got-other st work image i r at e i q b (small q l) hb (λ f g. d (sym g)));
             same-new = λ q l. inferred-new st work image i r at e i q b (small q l) hb;
           }
       go false e =
@@ -101,8 +101,8 @@ module _ (st : State) (work image : List ℕ) (i : ℕ) (r : Record) (at : Stand
             same-cell = λ q l d. unfold imageAfter in refl;
             same-got = λ q l. computed-got st work image i r at e i q b (small q l) hb;
             same-new = λ q l. at-place (before .new) (seen xr .new) (unitsOf st) (total bytes (unitsOf st) (requestOf st r) before) q
-              (λ f. rw f (computed-new st work image i r at e b hb ∙ sum-same))
-              (λ d. computed-new-other st work image i r at e i q b (small q l) hb (λ f g. d (sym g)));
+                (λ f. rw f (computed-new st work image i r at e b hb ∙ sum-same))
+                (λ d. computed-new-other st work image i r at e i q b (small q l) hb (λ f g. d (sym g)));
           }
 
   pub done-near : (x : ℕ) (s : Step) → Within (st .cards) s
