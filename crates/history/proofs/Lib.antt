@@ -21,3 +21,4 @@ pub mod ReadOff
 pub mod Parities
 pub mod Opened
 pub mod Events
+pub mod Replies
