@@ -22,3 +22,4 @@ pub mod Parities
 pub mod Opened
 pub mod Events
 pub mod Replies
+pub mod Stripes
