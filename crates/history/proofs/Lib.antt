@@ -23,3 +23,4 @@ pub mod Opened
 pub mod Events
 pub mod Replies
 pub mod Stripes
+pub mod Promised
