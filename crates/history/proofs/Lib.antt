@@ -24,3 +24,5 @@ pub mod Events
 pub mod Replies
 pub mod Stripes
 pub mod Promised
+pub mod Unseen
+pub mod Scans
