@@ -1,3 +1,8 @@
 -- What the walks by hand share.
 pub mod Locals
+pub mod Lines
+pub mod Walk
+pub mod Calls
+pub mod Lends
+pub mod Readers
 pub mod Records
