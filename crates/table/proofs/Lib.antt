@@ -6,3 +6,4 @@ pub mod Calls
 pub mod Lends
 pub mod Readers
 pub mod Records
+pub mod Elements

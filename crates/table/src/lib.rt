@@ -1,7 +1,8 @@
 // The table of request records as the caller lends it: thin functions that count it, read one record and replace one.
 // Assumes nothing.
 ghost use mathlib.Core.Path.{_≡_};
-ghost use lib.ListN.{length, getD, set};
+ghost use lib.ListN.{length, getD, set, replicate};
+ghost use mathlib.Core.Bool.{cond};
 ghost use Rattle.record.specs.Life.{free};
 ghost use Rattle.table.specs.Copy.{copyOf};
 use record::Record;
@@ -58,5 +59,27 @@ pub fn copied(table: &[Record]) -> Table
     Table {
         records: [r0, r1, r2, r3, r4, r5, r6, r7],
         len: n,
+    }
+}
+
+// Every record is freed, where that is asked.
+pub fn freed(table: &mut [Record], asked: bool)
+    ensures { λ _. ⌜ now (table .exit) ≡ cond asked (replicate (length (now (table .entry))) free) (now (table .entry)) ⌝ }
+{
+    if asked {
+        let mut i: usize = 0;
+        while i < table.len() {
+            table[i] = Record {
+                phase: 0,
+                write: 0,
+                stripe: 0,
+                mask: 0,
+                graph: 0,
+                chosen: 0,
+                done: 0,
+                count: 0,
+            };
+            i += 1;
+        }
     }
 }

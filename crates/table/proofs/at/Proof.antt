@@ -17,8 +17,8 @@ use ghost.Atoms.{Atoms}
 use contract.Monad.{factI}
 use contract.Running.{GhostRules, Running, givenOf}
 use types.Kit.{Given, Item, ‵, _⊛_, _$_, !, Sq, prop, move, keep, drop, use1, split, rewrite, fsplit, atRet}
-use types.Run.{look, look-raw, init, stop, fld, hop, from, load, lit, of-opd, bin, and-then, no-more, first, skips, branches, exec, returns, returns-within, params1, pass1, pass0}
-use types.Part.{whole, sub, look-in, agg}
+use types.Run.{look, look-raw, init, stop, fld, hop, from, load, lit, of-opd, bin, first, skips, branches, exec, returns, returns-within, params1, pass1, pass0}
+use types.Part.{whole, sub, look-in}
 use denote.Laws.{Is, shows}
 use denote.Plain.{uint-vals, uint-tells}
 use denote.Builtin.{u64}
@@ -32,10 +32,10 @@ use denote.Exit.{yes}
 use Rattle.record.specs.Life.{free}
 use Rattle.record.specs.declared.Record.{Record}
 use Rattle.record.proofs.Record as T
-use Rattle.table.proofs.Locals.{envAt, aside, Frees, none, full, room, leaves}
+use Rattle.table.proofs.Locals.{envAt, aside, Frees, end, full, room, leaves}
 use Rattle.table.proofs.Lines.{local, sets}
 use Rattle.table.proofs.Walk.{Walk, From, nil, had, calls-of, loops-of, proven, ends}
-use Rattle.table.proofs.Records.{vals, mach, tells, makes, copies, typed, free-is, offset-fits}
+use Rattle.table.proofs.Records.{vals, mach, tells, makes, copies, typed, free-is, zeros, offset-fits}
 use Rattle.table.proofs.at.Key.{name as #table·at}
 use Rattle.table.proofs.at as at
 use Rattle.table.proofs.at.Statement as stated
@@ -98,11 +98,11 @@ module _ {M : Type 1} (𝓤 : URA M) (H : Heap 𝓤) (𝓜 : Model 𝓤 H) (𝓖
         sets ! (of-opd ! (load ! (from ! (hop ! (look ! 22 refl) (stop !))) (look-raw ! 0 refl))) 24 refl (typed 𝓤 H A W (getD ys i free) is) $
         sets ! (of-opd ! (local ! 24 refl)) 6 refl (typed 𝓤 H A W (getD ys i free) is) $
         elem-back ! T.the-row q′ ys i free (vals (getD ys i free)) b o (ltb→lt i n below) $ shuts-slice ! tt T.the-row q′ ys b o $
-        returns-within ! Post refl (look ! 3 refl) $ aside ! 3 $ leaves ! (full (full (full (full (full (full (full (full (full (full none)))))))))) $
+        returns-within ! Post refl (look ! 3 refl) $ aside ! 3 $ leaves ! (full (full (full (full (full (full (full (full (full (full end)))))))))) $
         keep ! (1 ∷ 3 ∷ 0 ∷ []) $ exits (getD ys i free) is refl)))
         (λ past. skips ! $ exec ! (calls-of 𝓤 H 𝓜 𝓖 𝓡 code.env) (loops-of 𝓤 H 𝓜 𝓖 𝓡 code.env) (envAt H A (code.function .locals) l) lines.t-5 (atRet (envAt H A (code.function .locals) l) Post) $
-        sets ! (agg ! (and-then ! (lit ! tt) (and-then ! (lit ! tt) (and-then ! (lit ! tt) (and-then ! (lit ! tt) (and-then ! (lit ! tt) (and-then ! (lit ! tt) (and-then ! (lit ! tt) (and-then ! (lit ! tt) (no-more !)))))))))) 0 refl (typed 𝓤 H A W free free-is) $
-        returns ! (look ! 0 refl) $ leaves ! (full (full (full (full (full (full (room (room (room (room none)))))))))) $ exits free free-is (sym (List·getD-eq-default ys free (nltb→le i n past))))
+        sets ! (zeros !) 0 refl (typed 𝓤 H A W free free-is) $
+        returns ! (look ! 0 refl) $ leaves ! (full (full (full (full (full (full (room (room (room (room end)))))))))) $ exits free free-is (sym (List·getD-eq-default ys free (nltb→le i n past))))
 
 pub at-spec : {M : Type 1} → stated.statement M
 unfolding code.routine

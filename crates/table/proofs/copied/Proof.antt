@@ -37,7 +37,7 @@ use Rattle.record.proofs.Record as T
 use Rattle.record.proofs.Table as B
 use Rattle.record.proofs.Table.Laws as B′
 use Rattle.table.specs.Copy.{copyOf}
-use Rattle.table.proofs.Locals.{aside, Frees, none, full, leaves}
+use Rattle.table.proofs.Locals.{aside, Frees, end, full, leaves}
 use Rattle.table.proofs.Lines.{local, sets, lands-in}
 use Rattle.table.proofs.Walk.{Walk, From, nil, had, made, calls-of, loops-of, framed, proven, ends}
 use Rattle.table.proofs.Calls.{Told}
@@ -140,7 +140,7 @@ module _ {M : Type 1} (𝓤 : URA M) (H : Heap 𝓤) (𝓜 : Model 𝓤 H) (𝓖
         sets ! (agg ! (and-then ! (local ! 8 refl) (and-then ! (local ! 10 refl) (and-then ! (local ! 12 refl) (and-then ! (local ! 14 refl) (and-then ! (local ! 16 refl) (and-then ! (local ! 18 refl) (and-then ! (local ! 20 refl) (and-then ! (local ! 22 refl) (no-more !)))))))))) 24 refl (tt, (typed 𝓤 H A W (rec 0) is₀ .1, (typed 𝓤 H A W (rec 1) is₁ .1, (typed 𝓤 H A W (rec 2) is₂ .1, (typed 𝓤 H A W (rec 3) is₃ .1, (typed 𝓤 H A W (rec 4) is₄ .1, (typed 𝓤 H A W (rec 5) is₅ .1, (typed 𝓤 H A W (rec 6) is₆ .1, (typed 𝓤 H A W (rec 7) is₇ .1, tt))))))))) $
         let is : Is B.the-row (copyOf (x .now)) (mach-of (x .now) ∷ []) = copy-is (x .now) (room .0) (is₀, is₁, is₂, is₃, is₄, is₅, is₆, is₇) in
         sets ! (agg ! (and-then ! (local ! 24 refl) (and-then ! (local ! 6 refl) (no-more !)))) 2 refl (LL.lawful B.the-type B′.the-laws 𝓤 H A W .typed (copyOf (x .now)) _ is .0) $
-        returns ! (look ! 2 refl) $ aside ! 2 $ leaves ! (full (full (full (full (full (full (full (full (full (full (full (full none)))))))))))) $
+        returns ! (look ! 2 refl) $ aside ! 2 $ leaves ! (full (full (full (full (full (full (full (full (full (full (full (full end)))))))))))) $
         ends 𝓤 H A W copied.ended stayed clauses bound (mach-of (x .now)) (copyOf (x .now)) (tt, tt) (tt, tt) (factI 𝓤 _ (emp 𝓤) refl) (LL.makes B.the-type B′.the-plain 𝓤 H A (copyOf (x .now)) _ is) (had nil))))))))))
 
 pub copied-spec : {M : Type 1} → stated.statement M

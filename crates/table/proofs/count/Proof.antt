@@ -26,7 +26,7 @@ use denote.Triple.Walked.{Stays, stay-none-slice, walkOf, goes-none-slice}
 use denote.Exit.{yes}
 use Rattle.record.specs.declared.Record.{Record}
 use Rattle.record.proofs.Record as T
-use Rattle.table.proofs.Locals.{Frees, none, full, leaves}
+use Rattle.table.proofs.Locals.{Frees, end, full, leaves}
 use Rattle.table.proofs.Lines.{local, sets}
 use Rattle.table.proofs.Walk.{Walk, From, nil, had, proven, ends}
 use Rattle.table.proofs.count.Key.{name as #table·count}
@@ -64,7 +64,7 @@ module _ {M : Type 1} (𝓤 : URA M) (H : Heap 𝓤) (𝓜 : Model 𝓤 H) (𝓖
         params1 ! $ pass1 ! (init ! 2 refl (tt, (tt, (record { fits = room .0 }, tt)))) $ pass0 ! $
         sets ! (of-opd ! (load ! (from ! (fld ! refl (stop !))) (look-in ! 2 (sub ! 1 refl (whole !))))) 4 refl (tt, record { fits = room .0 }) $
         sets ! (of-opd ! (local ! 4 refl)) 0 refl (tt, record { fits = room .0 }) $
-        returns ! (look ! 0 refl) $ leaves ! (full (full (full none))) $
+        returns ! (look ! 0 refl) $ leaves ! (full (full (full end))) $
         ends 𝓤 H A W count.ended stayed clauses bound (vint w64 n) n (tt, tt) (tt, tt) (factI 𝓤 _ (emp 𝓤) refl) (uint-makes 𝓤 H A W w64 n _ (refl, room .0)) (had nil)
 
 pub count-spec : {M : Type 1} → stated.statement M
