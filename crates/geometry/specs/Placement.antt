@@ -4,7 +4,6 @@
 use Prim.Native.Nat.{ℕ, _+_, _-_, _*_, _/_, _%_}
 use mathlib.Core.Bool.{Bool, cond}
 use lib.Dec.{ltb, eqb}
-use Rattle.terms.specs.Reply.{Reply, accepted, refused}
 use Rattle.geometry.specs.Limits.{none}
 use Rattle.geometry.specs.declared.State.{State}
 
@@ -42,3 +41,7 @@ outIn st s = st .out
 -- the position of a card in stripe s where it is below N, and N, which is no position, where it is not
 unfoldable pub missingAt : ℕ → ℕ → ℕ → ℕ
 missingAt N s c = cond (ltb c N) (positionOf N s c) N
+
+-- the other way round: the card of a position of stripe s where it is one, 0 to n, and N, which is no card, where it is not
+unfoldable pub cardIn : ℕ → ℕ → ℕ → ℕ
+cardIn N s j = cond (ltb j N) (cardAt N s j) N
