@@ -7,3 +7,4 @@ pub mod Lends
 pub mod Readers
 pub mod Records
 pub mod Elements
+pub mod Fields
