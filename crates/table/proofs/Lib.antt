@@ -8,3 +8,6 @@ pub mod Readers
 pub mod Records
 pub mod Elements
 pub mod Fields
+pub mod Slices
+pub mod Uses
+pub mod Copies

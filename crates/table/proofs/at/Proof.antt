@@ -17,8 +17,7 @@ use ghost.Atoms.{Atoms}
 use contract.Monad.{factI}
 use contract.Running.{GhostRules, Running, givenOf}
 use types.Kit.{Given, Item, ‵, _⊛_, _$_, !, Sq, prop, move, keep, drop, use1, split, rewrite, fsplit, atRet}
-use types.Run.{look, look-raw, init, stop, fld, hop, from, load, lit, of-opd, bin, first, skips, branches, exec, returns, returns-within, params1, pass1, pass0}
-use types.Part.{whole, sub, look-in}
+use types.Run.{look, look-raw, init, stop, hop, from, load, lit, of-opd, bin, first, skips, branches, exec, returns, returns-within, params1, pass1, pass0}
 use denote.Laws.{Is, shows}
 use denote.Plain.{uint-vals, uint-tells}
 use denote.Builtin.{u64}
@@ -34,6 +33,7 @@ use Rattle.record.specs.declared.Record.{Record}
 use Rattle.record.proofs.Record as T
 use Rattle.table.proofs.Locals.{envAt, aside, Frees, end, full, room, leaves}
 use Rattle.table.proofs.Lines.{local, sets}
+use Rattle.table.proofs.Slices.{pointer, counted}
 use Rattle.table.proofs.Walk.{Walk, From, nil, had, calls-of, loops-of, proven, ends}
 use Rattle.table.proofs.Records.{vals, mach, tells, makes, copies, typed, free-is, zeros, offset-fits}
 use Rattle.table.proofs.at.Key.{name as #table·at}
@@ -82,14 +82,14 @@ module _ {M : Type 1} (𝓤 : URA M) (H : Heap 𝓤) (𝓜 : Model 𝓤 H) (𝓖
     walk : Room T.the-row n → i < 2 ^ 64 → Walk 𝓤 H 𝓜 𝓖 𝓡 code.env at.ended stayed clauses code.function bound
     walk fits i-fits l =
         params1 ! $ pass1 ! (init ! 2 refl (tt, (tt, (record { fits = fits .0 }, tt)))) $ pass1 ! (init ! 4 refl (tt, record { fits = i-fits })) $ pass0 ! $
-        sets ! (of-opd ! (load ! (from ! (fld ! refl (stop !))) (look-in ! 2 (sub ! 1 refl (whole !))))) 6 refl (tt, record { fits = fits .0 }) $
+        sets ! (of-opd ! (counted ! 2 refl refl)) 6 refl (tt, record { fits = fits .0 }) $
         sets ! (of-opd ! (local ! 6 refl)) 8 refl (tt, record { fits = fits .0 }) $
         sets ! (bin ! (local ! 4 refl) (local ! 8 refl) tt) 10 refl (tt, tt) $
         -- [_0; …; _9; …; the token; what table owns; i's]
         first ! $ branches ! (local ! 10 refl) (λ below.
         sets ! (of-opd ! (local ! 4 refl)) 12 refl (tt, record { fits = i-fits }) $
         sets ! (bin ! (local ! 12 refl) (lit ! tt) (record { fits = offset-fits i n (ltb→lt i n below) fits })) 14 refl (tt, record { fits = offset-fits i n (ltb→lt i n below) fits }) $
-        sets ! (bin ! (load ! (from ! (fld ! refl (stop !))) (look-in ! 2 (sub ! 0 refl (whole !)))) (local ! 14 refl) tt) 16 refl (tt, tt) $
+        sets ! (bin ! (pointer ! 2 refl refl) (local ! 14 refl) tt) 16 refl (tt, tt) $
         rewrite ! 16 (λ (p : ℕ). ‵ (fat fullShare tyPtr (l .1 .1 .1 .1 .1 .1 .1 .1 .0) 0 (vptr b p))) (sym (place-is 64 o i)) refl $
         -- the slice is Copy: one copy of what it owns is kept for the exit, and the other is looked into
         move ! (21 ∷ []) $ use1 W (‵ Own ⊛ ‵ Own) (shr-slice-copy 𝓤 H A W (named 0) κ T.the-row .twice x (s ∷ [])) $ split ! $ fsplit ! $ drop ! $ fsplit ! $ drop ! $ move ! (0 ∷ 22 ∷ []) $

@@ -15,8 +15,7 @@ use ghost.Atoms.{Atoms}
 use contract.Monad.{factI}
 use contract.Running.{GhostRules, Running, givenOf}
 use types.Kit.{Given, _$_, ! }
-use types.Run.{look, init, stop, fld, from, load, of-opd, returns, params1, pass1, pass0}
-use types.Part.{whole, sub, look-in}
+use types.Run.{look, init, of-opd, returns, params1, pass1, pass0}
 use denote.Plain.{uint-makes}
 use denote.Ref.{RefT}
 use denote.Slice.{sliceVal, slice-vals, Room, shr-slice-tells}
@@ -28,6 +27,7 @@ use Rattle.record.specs.declared.Record.{Record}
 use Rattle.record.proofs.Record as T
 use Rattle.table.proofs.Locals.{Frees, end, full, leaves}
 use Rattle.table.proofs.Lines.{local, sets}
+use Rattle.table.proofs.Slices.{counted}
 use Rattle.table.proofs.Walk.{Walk, From, nil, had, proven, ends}
 use Rattle.table.proofs.count.Key.{name as #table·count}
 use Rattle.table.proofs.count as count
@@ -62,7 +62,7 @@ module _ {M : Type 1} (𝓤 : URA M) (H : Heap 𝓤) (𝓜 : Model 𝓤 H) (𝓖
     walk : Room T.the-row n → Walk 𝓤 H 𝓜 𝓖 𝓡 code.env count.ended stayed clauses code.function bound
     walk room l =
         params1 ! $ pass1 ! (init ! 2 refl (tt, (tt, (record { fits = room .0 }, tt)))) $ pass0 ! $
-        sets ! (of-opd ! (load ! (from ! (fld ! refl (stop !))) (look-in ! 2 (sub ! 1 refl (whole !))))) 4 refl (tt, record { fits = room .0 }) $
+        sets ! (of-opd ! (counted ! 2 refl refl)) 4 refl (tt, record { fits = room .0 }) $
         sets ! (of-opd ! (local ! 4 refl)) 0 refl (tt, record { fits = room .0 }) $
         returns ! (look ! 0 refl) $ leaves ! (full (full (full end))) $
         ends 𝓤 H A W count.ended stayed clauses bound (vint w64 n) n (tt, tt) (tt, tt) (factI 𝓤 _ (emp 𝓤) refl) (uint-makes 𝓤 H A W w64 n _ (refl, room .0)) (had nil)

@@ -22,8 +22,7 @@ use ghost.Atoms.{Atoms}
 use contract.Monad.{factI}
 use contract.Running.{GhostRules, Running, givenOf}
 use types.Kit.{Given, Item, ‵, _$_, !, Sq, prop, runs, anyQ, atRet, Post, post, move, rewrite}
-use types.Run.{Below, again, look, store, store-raw, init, forget, stop, fld, hop, from, load, lit, unit-lit, of-opd, bin, assigns, assigns-last, first, blocks, skips, branches, exec, returns, params1, pass1, pass0}
-use types.Part.{whole, sub, look-in}
+use types.Run.{Below, again, look, store, store-raw, init, forget, stop, hop, from, lit, unit-lit, of-opd, bin, assigns, assigns-last, first, blocks, skips, branches, exec, returns, params1, pass1, pass0}
 use denote.Plain.{bool-vals, bool-tells, nothing-makes}
 use denote.Builtin.{bool}
 use denote.Slice.{sliceVal, slice-vals, Room, mut-slice-tells}
@@ -37,6 +36,7 @@ use Rattle.record.specs.declared.Record.{Record}
 use Rattle.record.proofs.Record as T
 use Rattle.table.proofs.Locals.{Spots, envAt, holding, aside, Frees, end, full, room, leaves}
 use Rattle.table.proofs.Lines.{local, sets, tests}
+use Rattle.table.proofs.Slices.{pointer, counted}
 use Rattle.table.proofs.Walk.{Walk, From, nil, had, calls-of, loops-of, turns, proven, ends}
 use Rattle.table.proofs.Records.{vals, tells, typed, free-is, zeros, offset-fits}
 use Rattle.table.proofs.Elements.{Own, opens-at, closes-at}
@@ -153,12 +153,12 @@ module _ {M : Type 1} (𝓤 : URA M) (H : Heap 𝓤) (𝓜 : Model 𝓤 H) (𝓖
       turn : Holds asked → (t : Place) → Sq W (Before t) (runs C Λ E lines.turn-1 (anyQ (afterTurn 𝓤 H (Below 𝓤 H A (λ (y x : Place). left y < left x) Before t) (post 𝓤 H Then))))
       unfolding afterTurn
       turn on t =
-          sets ! (of-opd ! (load ! (from ! (fld ! refl (stop !))) (look-in ! 4 (sub ! 1 refl (whole !))))) 12 refl (tt, record { fits = fits .0 }) $
+          sets ! (of-opd ! (counted ! 4 refl refl)) 12 refl (tt, record { fits = fits .0 }) $
           sets ! (bin ! (local ! 8 refl) (local ! 12 refl) tt) 14 refl (tt, tt) $
           tests ! (local ! 14 refl) (λ below.
           sets ! (zeros !) 16 refl (typed 𝓤 H A W free free-is) $
           assigns ! (bin ! (local ! 8 refl) (lit ! tt) (record { fits = offset-fits (t .0) n (ltb→lt (t .0) n below) fits })) (from ! (stop !)) (store ! 12 refl (tt, record { fits = offset-fits (t .0) n (ltb→lt (t .0) n below) fits })) $
-          sets ! (bin ! (load ! (from ! (fld ! refl (stop !))) (look-in ! 4 (sub ! 0 refl (whole !)))) (local ! 12 refl) tt) 18 refl (tt, tt) $
+          sets ! (bin ! (pointer ! 4 refl refl) (local ! 12 refl) tt) 18 refl (tt, tt) $
           rewrite ! 18 (λ (p : ℕ). ‵ (fat fullShare tyPtr (l .1 .1 .1 .1 .1 .1 .1 .1 .0) 0 (vptr b p))) (sym (place-is 64 o (t .0))) refl $
           opens-at (named 0) κ q b o γ n ! tt (cleared (t .0) ys) (t .0) (there (t .0) ys (ltb→lt (t .0) n below)) $
           -- [table[i]; what it owns; the others; the open borrow; obs; auth; _0; …; _8; …; asked's]

@@ -18,8 +18,7 @@ use ghost.Atoms.{Atoms}
 use contract.Monad.{factI}
 use contract.Running.{GhostRules, Running, givenOf}
 use types.Kit.{Given, ‵, _$_, !, Sq, prop, move, rewrite, atRet}
-use types.Run.{look, store-raw, init, stop, fld, hop, from, load, lit, unit-lit, of-opd, bin, assigns-last, first, skips, branches, exec, returns, params1, pass1, pass0}
-use types.Part.{whole, sub, look-in}
+use types.Run.{look, store-raw, init, stop, hop, from, lit, unit-lit, of-opd, bin, assigns-last, first, skips, branches, exec, returns, params1, pass1, pass0}
 use denote.Laws.{Is}
 use denote.Plain.{uint-vals, uint-tells, nothing-makes}
 use denote.Builtin.{u64}
@@ -33,6 +32,7 @@ use Rattle.record.specs.declared.Record.{Record}
 use Rattle.record.proofs.Record as T
 use Rattle.table.proofs.Locals.{envAt, aside, Frees, end, full, room, leaves}
 use Rattle.table.proofs.Lines.{local, sets}
+use Rattle.table.proofs.Slices.{pointer, counted}
 use Rattle.table.proofs.Walk.{Walk, From, nil, had, calls-of, loops-of, proven, ends}
 use Rattle.table.proofs.Records.{vals, tells, typed, offset-fits}
 use Rattle.table.proofs.Elements.{Own, opens-at, closes-at}
@@ -76,14 +76,14 @@ module _ {M : Type 1} (𝓤 : URA M) (H : Heap 𝓤) (𝓜 : Model 𝓤 H) (𝓖
     walk : Room T.the-row n → i < 2 ^ 64 → Is T.the-row r (vals r) → Walk 𝓤 H 𝓜 𝓖 𝓡 code.env replace.ended stayed clauses code.function bound
     walk fits i-fits is l =
         params1 ! $ pass1 ! (init ! 2 refl (tt, (tt, (record { fits = fits .0 }, tt)))) $ pass1 ! (init ! 4 refl (tt, record { fits = i-fits })) $ pass1 ! (init ! 6 refl (typed 𝓤 H A W r is)) $ pass0 ! $
-        sets ! (of-opd ! (load ! (from ! (fld ! refl (stop !))) (look-in ! 2 (sub ! 1 refl (whole !))))) 8 refl (tt, record { fits = fits .0 }) $
+        sets ! (of-opd ! (counted ! 2 refl refl)) 8 refl (tt, record { fits = fits .0 }) $
         sets ! (of-opd ! (local ! 8 refl)) 10 refl (tt, record { fits = fits .0 }) $
         sets ! (bin ! (local ! 4 refl) (local ! 10 refl) tt) 12 refl (tt, tt) $
         -- [_0; …; _9; …; the token; what table owns; i's; r's]
         first ! $ branches ! (local ! 12 refl) (λ below.
         sets ! (of-opd ! (local ! 4 refl)) 14 refl (tt, record { fits = i-fits }) $
         sets ! (bin ! (local ! 14 refl) (lit ! tt) (record { fits = offset-fits i n (ltb→lt i n below) fits })) 16 refl (tt, record { fits = offset-fits i n (ltb→lt i n below) fits }) $
-        sets ! (bin ! (load ! (from ! (fld ! refl (stop !))) (look-in ! 2 (sub ! 0 refl (whole !)))) (local ! 16 refl) tt) 18 refl (tt, tt) $
+        sets ! (bin ! (pointer ! 2 refl refl) (local ! 16 refl) tt) 18 refl (tt, tt) $
         rewrite ! 18 (λ (p : ℕ). ‵ (fat fullShare tyPtr (l .1 .1 .1 .1 .1 .1 .1 .1 .1 .0) 0 (vptr b p))) (sym (place-is 64 o i)) refl $
         move ! (20 ∷ 21 ∷ []) $ opens-at (named 0) κ q b o γ n ! tt ys i (ltb→lt i n below) $
         -- [table[i]; what it owns; the others; the open borrow; obs; auth; _0; …; _9; …; i's; r's]
