@@ -1,8 +1,8 @@
 // What the layout program is asked for.
 ghost use mathlib.Core.Path.{_≡_};
 ghost use Rattle.text.specs.Input.{asked};
+use crate::beyond;
 use crate::number::read_number;
-use geometry::Geometry;
 
 // What an input asks for: the layout of an array of this shape, or nothing that can be shown.
 pub enum Asked {
@@ -27,13 +27,7 @@ pub fn read_input(text: &[u8]) -> Asked
     }
     let cards = read_number(&text[..1]);
     let stripes = read_number(&text[2..end]);
-    let shape = Geometry {
-        cards,
-        stripes,
-        block: 16,
-        records: 1,
-    };
-    if shape.beyond_places() {
+    if beyond(cards, stripes) {
         return Asked::Bad;
     }
     Asked::Shape { cards, stripes }

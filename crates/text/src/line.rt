@@ -6,8 +6,9 @@ ghost use lib.ListN.{length};
 ghost use Rattle.terms.specs.Lists.{put};
 ghost use Rattle.geometry.specs.Answers.{beyondPlaces};
 ghost use Rattle.text.specs.Line.{heldText, cardsText, written};
+use crate::beyond;
+use crate::held_at;
 use crate::number::put_number;
-use geometry::Geometry;
 use geometry::Held;
 
 // A room that every line fits in: four bytes for the stripe, five for each card, one for the newline.
@@ -38,17 +39,11 @@ fn put_cards(cards: u64, stripes: u64, stripe: u64, out: &mut [u8], at: usize) -
     ensures { λ r. ⌜ r ≡ at + length (cardsText cards stripe cards) ⌝ }
     ensures { λ _. ⌜ now (out .exit) ≡ put at (cardsText cards stripe cards) (now (out .entry)) ⌝ }
 {
-    let shape = Geometry {
-        cards,
-        stripes,
-        block: 16,
-        records: 1,
-    };
     let mut end = at;
     let mut card = 0;
     while card < cards {
         out[end] = b' ';
-        end = put_held(shape.block_at(card, stripe), out, end + 1);
+        end = put_held(held_at(cards, stripes, card, stripe), out, end + 1);
         card += 1;
     }
     end
@@ -63,13 +58,7 @@ pub fn write_line(cards: u64, stripes: u64, stripe: u64, out: &mut [u8]) -> usiz
     if out.len() < ROOM {
         return 0;
     }
-    let shape = Geometry {
-        cards,
-        stripes,
-        block: 16,
-        records: 1,
-    };
-    if shape.beyond_places() {
+    if beyond(cards, stripes) {
         return 0;
     }
     if stripes <= stripe {

@@ -45,14 +45,14 @@ part-read-number-end c = search needs
 read-number-requires-2 : tie.Need-read-number-requires-2
 read-number-requires-2 c κs = search needs
 
-beyond-places-requires : tie.Need-beyond-places-requires
-beyond-places-requires c κs = search needs
+beyond-requires : tie.Need-beyond-requires
+beyond-requires c κs = search needs
 
 returns-4 : tie.Need-returns-4
-returns-4 c = sym (bad-limits _ _ _ (c .before .before .before .before .read-number .ensures) (c .before .before .read-number2 .ensures) (sym (c .before .beyond-places .ensures) ∙ c .if4 .taken))
+returns-4 c = sym (bad-limits _ _ _ (c .before .before .before .before .read-number .ensures) (c .before .before .read-number2 .ensures) (sym (c .before .beyond .ensures) ∙ c .if4 .taken))
 
 returns-5 : tie.Need-returns-5
-returns-5 c = sym (good _ _ _ (omega arith) (c .before .before .before .before .before .before .before .before .if2 .left) (c .before .before .before .before .before .before .if3 .left) (c .before .before .before .before .read-number .ensures) (c .before .before .read-number2 .ensures) (sym (c .before .beyond-places .ensures) ∙ c .if4 .left))
+returns-5 c = sym (good _ _ _ (omega arith) (c .before .before .before .before .before .before .before .before .if2 .left) (c .before .before .before .before .before .before .if3 .left) (c .before .before .before .before .read-number .ensures) (c .before .before .read-number2 .ensures) (sym (c .before .beyond .ensures) ∙ c .if4 .left))
 
 pub read-input-spec : {M : Type 1} → statement M
 read-input-spec =
@@ -70,6 +70,6 @@ read-input-spec =
     part-read-number-start
     part-read-number-end
     read-number-requires-2
-    beyond-places-requires
+    beyond-requires
     returns-4
     returns-5)

@@ -8,10 +8,10 @@ use Rattle.text.proofs.line.put_cards.Statement.{statement}
 use Rattle.text.proofs.line.put_cards.Tie as tie
 
 abbrev Inv-loop : tie.InvT-loop
-Inv-loop cards stripes stripe out₀ at shape end₀ card₀ out end card = Upto cards stripe at out₀ card end out
+Inv-loop cards stripes stripe out₀ at end₀ card₀ out end card = Upto cards stripe at out₀ card end out
 
 abbrev μ-loop : tie.MeasureT-loop
-μ-loop cards stripes stripe out₀ at shape end₀ card₀ out end card = cards - card
+μ-loop cards stripes stripe out₀ at end₀ card₀ out end card = cards - card
 
 loop-holds : tie.Need-loop-holds Inv-loop μ-loop
 loop-holds c = upto-none _ _ _ _
@@ -21,8 +21,8 @@ slice-write-out c =
     let f = c .before .before .before in
     omega (arith, upto-room _ _ _ (f .pre .0) (f .pre .1 .0) _ _ (f .pre .1 .1) (c .before .loop .inv) (c .loop-test .taken))
 
-block-at-requires : tie.Need-block-at-requires Inv-loop μ-loop
-block-at-requires c κs = search needs
+held-at-requires : tie.Need-held-at-requires Inv-loop μ-loop
+held-at-requires c κs = search needs
 
 add-put-held : tie.Need-add-put-held Inv-loop μ-loop
 add-put-held c =
@@ -37,7 +37,7 @@ add-put-held c =
 put-held-requires : tie.Need-put-held-requires Inv-loop μ-loop
 put-held-requires c κs =
     let f = c .before .before .before .before .before in
-    upto-fits _ _ _ (f .pre .0) (f .pre .1 .0) _ _ (f .pre .1 .1) (c .before .before .before .loop .inv) (c .before .before .loop-test .taken) _ (c .before .block-at .ensures)
+    upto-fits _ _ _ (f .pre .0) (f .pre .1 .0) _ _ (f .pre .1 .1) (c .before .before .before .loop .inv) (c .before .before .loop-test .taken) _ (c .before .held-at .ensures)
 
 add-card : tie.Need-add-card Inv-loop μ-loop
 add-card c = search needs
@@ -49,7 +49,7 @@ loop-again : tie.Need-loop-again Inv-loop μ-loop
 loop-again c =
     let f = c .before .before .before .before .before .before .before .before in
     let call = c .before .before .put-held in
-    upto-next _ _ _ (f .pre .0) (f .pre .1 .0) _ _ (f .pre .1 .1) (c .before .before .before .before .before .before .loop .inv) (c .before .before .before .before .before .loop-test .taken) _ (c .before .before .before .before .block-at .ensures) (call .ensures .0) (call .ensures .1)
+    upto-next _ _ _ (f .pre .0) (f .pre .1 .0) _ _ (f .pre .1 .1) (c .before .before .before .before .before .before .loop .inv) (c .before .before .before .before .before .loop-test .taken) _ (c .before .before .before .before .held-at .ensures) (call .ensures .0) (call .ensures .1)
 
 same-length : tie.Need-same-length Inv-loop μ-loop
 same-length c =
@@ -69,7 +69,7 @@ put-cards-spec =
     μ-loop
     loop-holds
     slice-write-out
-    block-at-requires
+    held-at-requires
     add-put-held
     put-held-requires
     add-card

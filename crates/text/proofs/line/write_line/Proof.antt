@@ -13,16 +13,16 @@ use Rattle.text.proofs.line.write_line.Tie as tie
 
 -- past the test of the limits they hold
 legal : (e : tie.Else2) → beyondPlaces (e .before .before .before .before .args .cards) (e .before .before .before .before .args .stripes) ≡ false
-legal e = sym (e .before .beyond-places .ensures) ∙ e .if2 .left
+legal e = sym (e .before .beyond .ensures) ∙ e .if2 .left
 
 returns : tie.Need-returns
 returns c = nothing _ _ (written-small _ _ _ _ (search needs))
 
-beyond-places-requires : tie.Need-beyond-places-requires
-beyond-places-requires c κs = search needs
+beyond-requires : tie.Need-beyond-requires
+beyond-requires c κs = search needs
 
 returns-2 : tie.Need-returns-2
-returns-2 c = nothing _ _ (written-beyond _ _ _ _ (search needs) (sym (c .before .beyond-places .ensures) ∙ c .if2 .taken))
+returns-2 c = nothing _ _ (written-beyond _ _ _ _ (search needs) (sym (c .before .beyond .ensures) ∙ c .if2 .taken))
 
 returns-3 : tie.Need-returns-3
 returns-3 c = nothing _ _ (written-range _ _ _ _ (search needs) (legal (c .before)) (search needs))
@@ -74,7 +74,7 @@ write-line-spec =
     tie.close
     (tie.spec
     returns
-    beyond-places-requires
+    beyond-requires
     returns-2
     returns-3
     put-number-requires
