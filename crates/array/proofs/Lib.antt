@@ -9,4 +9,7 @@ pub mod Units
 pub mod Adding
 pub mod Performed
 pub mod Within
+pub mod Chains
+pub mod Accepted
+pub mod Handed
 pub mod Kept
