@@ -60,9 +60,9 @@ fn fill(state: &State, image: &mut [u8]) {
 
 /// Microseconds for each of the scans: the best of many rounds in which they take turns.
 fn measure(scans: &[&dyn Fn() -> bool], bytes: usize) -> Vec<f64> {
-    let repeats = (40_000_000 / bytes).max(1);
+    let repeats = (8_000_000 / bytes).max(1);
     let mut best = vec![f64::INFINITY; scans.len()];
-    for _ in 0..25 {
+    for _ in 0..400 {
         for (run, least) in scans.iter().zip(&mut best) {
             let start = Instant::now();
             for _ in 0..repeats {
