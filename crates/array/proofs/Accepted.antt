@@ -86,7 +86,7 @@ unfolding soundRecord legalRecord rightGraph rightCount
 open-sound st r e o =
     let phase : r .phase ≡ 1 = eqb-true (r .phase) 1 o in
     let s : (legalRecord st r && legalChosen st r && rightGraph st r && rightSteps st r && rightCount st r) ≡ true =
-          rw (ne-eqb (r .phase) 0 (λ z. omega arith)) at e in
+    rw (ne-eqb (r .phase) 0 (λ z. omega arith)) at e in
     let a = legalRecord st r in
     let b = legalChosen st r in
     let four = and-left (a && b && rightGraph st r && rightSteps st r) (rightCount st r) s in
@@ -139,8 +139,8 @@ module _ (st : State) (table : List Record) (work image : List ℕ) (i k : ℕ) 
         image-right = a .right .image-right;
         x-below =
             λ e.
-              let x : chosenAt st the-record < unitsOf st = choose-two (unitsOf st) (isWrite the-record) (the-record .mask) (chosenAt st the-record) (sym (is-sound .graph-is) ∙ eqb-true (the-record .graph) 2 e) in
-              omega arith;
+            let x : chosenAt st the-record < unitsOf st = choose-two (unitsOf st) (isWrite the-record) (the-record .mask) (chosenAt st the-record) (sym (is-sound .graph-is) ∙ eqb-true (the-record .graph) 2 e) in
+            omega arith;
       }
 
   few : fewIn st ≡ true

@@ -7,8 +7,8 @@ pub use opens::open;
 pub use scans::scan;
 pub use stepping::step;
 
-pub mod answers;
 mod admits;
+pub mod answers;
 mod collects;
 mod opens;
 mod performs;

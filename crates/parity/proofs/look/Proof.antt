@@ -5,14 +5,14 @@ use Prim.Native.Nat.{ℕ, _-_, _≤_, _<_}
 use mathlib.Core.Bool.{false}
 use mathlib.Core.List.{List}
 use mathlib.Core.Logic.{⊎-elim}
-use mathlib.Core.Path.{_≡_, sym, _∙_}
+use mathlib.Core.Path.{refl, _≡_, sym, _∙_}
 use native.Mathlib.Omega.{arith}
 use borrow.Author.Count.{below-none, below-more}
 use borrow.Author.Needs.{needs}
 use lib.ListN.{getD}
 use Rattle.geometry.proofs.Flags.{fails, holds}
 use Rattle.parity.specs.Parity.{passes}
-use Rattle.parity.specs.Scan.{reply}
+use Rattle.parity.specs.Scan.{reply, scanOf}
 use Rattle.parity.proofs.Found.{Looking, wrongIn, reports, reports-passed, sum-length, sum-right, sum-clear, sum-wrong, sum-wrong-byte, looked-right, looked-wrong}
 use Rattle.parity.proofs.look.Statement.{statement}
 use Rattle.parity.proofs.look.Tie as tie
@@ -95,28 +95,32 @@ scan-again c =
     (search needs, below-more _ _ (c .before .before .before .scan .inv .1) fine)
 
 returns : tie.Need-returns Inv-loop μ-loop Inv-scan μ-scan
-unfolding reply
-returns c =
-    looked-right (at-start (c .before .before .before .before))
-    (λ j h. c .before .before .scan .inv .1 j (omega (arith, c .if4 .taken)))
+unfolding reply scanOf
+returns c = (
+  looked-right (at-start (c .before .before .before .before))
+      (λ j h. c .before .before .scan .inv .1 j (omega (arith, c .if4 .taken))),
+  refl,
+)
 
 returns-2 : tie.Need-returns-2 Inv-loop μ-loop Inv-scan μ-scan
-unfolding reply
-returns-2 c =
-    let start = c .before .before .before .before in
-    let at = c .before .before .scan in
-    ⊎-elim
-    (λ w. absurd (c .if4 .left (omega (arith, at .inv .0, w .0 .left))))
-    (λ w.
-    let b = w .8 .byte in
-    let wrong : wrongIn (at-start start) (at .stripe) ≡ b =
-    sum-wrong-byte (at-start start) (at .stripe) (w .4 .last .0) (start .pre .block) (w .4 .ensures) b
-    (w .9 .taken) (w .10 .taken) (w .8 .inv .1) in
-    looked-wrong (at-start start) (at .stripe) (c .before .scan-test .byte) (w .0 .taken)
-    (sum-wrong (at-start start) (at .stripe) (w .4 .last .0) (start .pre .block) (w .4 .ensures) b
-    (w .9 .taken) (w .10 .taken) (w .8 .inv .1) (fails (w .1 .ensures) (w .2 .taken)))
-    (at .inv .1) (wrong ∙ sym (w .11)))
-    (c .before .scan-test .came)
+unfolding reply scanOf
+returns-2 c = (
+  let start = c .before .before .before .before in
+      let at = c .before .before .scan in
+      ⊎-elim
+      (λ w. absurd (c .if4 .left (omega (arith, at .inv .0, w .0 .left))))
+      (λ w.
+      let b = w .8 .byte in
+      let wrong : wrongIn (at-start start) (at .stripe) ≡ b =
+      sum-wrong-byte (at-start start) (at .stripe) (w .4 .last .0) (start .pre .block) (w .4 .ensures) b
+      (w .9 .taken) (w .10 .taken) (w .8 .inv .1) in
+      looked-wrong (at-start start) (at .stripe) (c .before .scan-test .byte) (w .0 .taken)
+      (sum-wrong (at-start start) (at .stripe) (w .4 .last .0) (start .pre .block) (w .4 .ensures) b
+      (w .9 .taken) (w .10 .taken) (w .8 .inv .1) (fails (w .1 .ensures) (w .2 .taken)))
+      (at .inv .1) (wrong ∙ sym (w .11)))
+      (c .before .scan-test .came),
+  refl,
+)
 
 pub look-spec : {M : Type 1} → statement M
 look-spec =
