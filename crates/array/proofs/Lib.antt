@@ -12,4 +12,6 @@ pub mod Within
 pub mod Chains
 pub mod Accepted
 pub mod Handed
+pub mod Lending
+pub mod Own
 pub mod Kept
