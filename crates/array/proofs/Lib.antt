@@ -15,4 +15,6 @@ pub mod Answered
 pub mod Lending
 pub mod Own
 pub mod Keeping
+pub mod Looks
+pub mod Opened
 pub mod Kept
