@@ -26,3 +26,6 @@ pub mod Stripes
 pub mod Promised
 pub mod Unseen
 pub mod Scans
+pub mod Calls
+pub mod Alikes
+pub mod Independent

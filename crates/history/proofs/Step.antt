@@ -53,7 +53,7 @@ on-meets x s by-write = eq-eqb x x refl
 pub misses : (x : ℕ) (s : Step) → meetsOut x s ≡ false → ¬ On x s
 misses x s e o = true≢false (sym (on-meets x s o) ∙ e)
 
-kind-within : (n N k : ℕ) (s : Step) → n < N → Kind n k s → Within N s
+pub kind-within : (n N k : ℕ) (s : Step) → n < N → Kind n k s → Within N s
 kind-within n N k s h (a-read l) = omega arith
 kind-within n N k s h a-sum = tt
 kind-within n N k s h (a-write l) = omega arith
