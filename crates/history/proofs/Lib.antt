@@ -29,3 +29,5 @@ pub mod Scans
 pub mod Calls
 pub mod Alikes
 pub mod Independent
+pub mod Compute
+pub mod Starred
