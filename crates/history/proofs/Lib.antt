@@ -31,3 +31,4 @@ pub mod Alikes
 pub mod Independent
 pub mod Compute
 pub mod Starred
+pub mod Needed
