@@ -96,13 +96,13 @@ module _ {w : World} (start : World) (es : List Event) (p : Alike (ran start es)
   more-answers (decay image) all o = o
 
 -- the world at the end is what the calls alone would have left, but for the bytes of the card that is out
-pub history-ran : {w : World} {a : Account} (h : History w a) → Alike (ran (startOf h) (callsOf h)) w
+pub history-ran : {w : World} {a : Account} (h : History play w a) → Alike (ran (startOf h) (callsOf h)) w
 unfolding startOf callsOf
 history-ran (opened g out table work image ok) = unfold ran in alike-refl _
 history-ran (next h e p) = more-ran (startOf h) (callsOf h) (history-ran h) e p
 
 -- and every call was answered as it would have been
-pub history-answers : {w : World} {a : Account} (h : History w a) → answersOf h ≡ answered (startOf h) (callsOf h)
+pub history-answers : {w : World} {a : Account} (h : History play w a) → answersOf h ≡ answered (startOf h) (callsOf h)
 unfolding startOf callsOf answersOf
 history-answers (opened g out table work image ok) = unfold answered in refl
 history-answers (next h e p) = more-answers (startOf h) (callsOf h) (history-ran h) e (answersOf h) (history-answers h)
@@ -110,7 +110,7 @@ history-answers (next h e p) = more-answers (startOf h) (callsOf h) (history-ran
 -- ---- two histories
 
 -- two histories that start alike and make the same calls, whatever decays between them: the same answers, and ends that are alike
-pub independent : {w v : World} {a b : Account} (h : History w a) (k : History v b) → Alike (startOf h) (startOf k) → callsOf k ≡ callsOf h
+pub independent : {w v : World} {a b : Account} (h : History play w a) (k : History play v b) → Alike (startOf h) (startOf k) → callsOf k ≡ callsOf h
     → (answersOf k ≡ answersOf h) × Alike w v
 independent h k p c = (
   history-answers k ∙ ap (answered (startOf k)) c ∙ answered-same p (callsOf h) ∙ sym (history-answers h),

@@ -24,6 +24,7 @@ pub mod Events
 pub mod Replies
 pub mod Stripes
 pub mod Promised
+pub mod Demand3
 pub mod Unseen
 pub mod Scans
 pub mod Calls

@@ -30,7 +30,7 @@ start = openedWorld (small 3 1) 255 (free ∷ []) (replicate 96 0) zeros
 abbrev first : Account
 first = openedAccount (small 3 1) 255 (free ∷ []) (replicate 96 0) zeros
 
-history : History start first
+history : History play start first
 unfolding computed
 history = begin (small 3 1) 255 (free ∷ []) (replicate 96 0) zeros refl
 
@@ -43,13 +43,13 @@ whole = refl
 abbrev twice : World
 twice = play (play start (report 0) .world) (report 1) .world
 
-two-reports : History twice (noted (play start (report 0) .world) (noted start first (report 0)) (report 1))
+two-reports : History play twice (noted play (play start (report 0) .world) (noted play start first (report 0)) (report 1))
 unfolding Possible
 two-reports = next (next history (report 0) tt) (report 1) tt
 
-pub lost-array : (w : World) × (a : Account) × History w a × (¬ Promise w a)
+pub lost-array : (w : World) × (a : Account) × History play w a × (¬ Promise play w a)
 unfolding computed
-lost-array = (twice, noted (play start (report 0) .world) (noted start first (report 0)) (report 1), two-reports, λ p. wrong (p .lent-right scan))
+lost-array = (twice, noted play (play start (report 0) .world) (noted play start first (report 0)) (report 1), two-reports, λ p. wrong (p .lent-right scan))
   where
     wrong : (_≡_ {A = ℕ} 4 0) ⊎ (_<_ 4 4) → ⊥
     wrong (inl e) = omega arith
@@ -60,8 +60,8 @@ lost-array = (twice, noted (play start (report 0) .world) (noted start first (re
 abbrev altered : List ℕ
 altered = 1 ∷ replicate 47 0
 
-pub altered-card : (w : World) × (a : Account) × History w a × Whole w × (image : List ℕ) × (length image ≡ length (w .image))
-    × (¬ Promise (play w (decay image) .world) (noted w a (decay image)))
+pub altered-card : (w : World) × (a : Account) × History play w a × Whole w × (image : List ℕ) × (length image ≡ length (w .image))
+    × (¬ Promise play (play w (decay image) .world) (noted play w a (decay image)))
 unfolding computed noted openedAccount openedRow
 altered-card = (start, first, history, whole, altered, refl, λ p. wrong (p .units 0 (lit< tt) refl (λ e. omega arith)))
   where
@@ -78,9 +78,9 @@ foreign = record { phase = 1; write = 0; stripe = 0; mask = 3; graph = 1; chosen
 abbrev pub withTable : World → List Record → World
 withTable w table = record { state = w .state; table = table; work = w .work; image = w .image }
 
-pub foreign-table : (w : World) × (a : Account) × History w a × Whole w × (table : List Record) × (sound (w .state) table ≡ true)
+pub foreign-table : (w : World) × (a : Account) × History play w a × Whole w × (table : List Record) × (sound (w .state) table ≡ true)
     × (play (withTable w table) (step 0 0) .reply .number ≡ 0)
-    × (¬ Promise (play (withTable w table) (step 0 0) .world) (noted (withTable w table) a (step 0 0)))
+    × (¬ Promise play (play (withTable w table) (step 0 0) .world) (noted play (withTable w table) a (step 0 0)))
 unfolding computed
 foreign-table = (start, first, history, whole, foreign, refl, refl, λ p. wrong (p .lent-right scan))
   where

@@ -1,4 +1,5 @@
--- The theorem: at the end of every history in which the array is not lost, the promise holds.
+-- From the invariant to the promise: what is due and what is counted, that no call is refused for what it is lent, and that every open request
+-- has a step to take.
 -- Assumes nothing.
 use Prim.Native.Nat.{ℕ, _+_, _-_, _*_, _≤_, _<_}
 use mathlib.Core.Bool.{Bool, true, false, cond, not, _&&_, _||_}
@@ -30,10 +31,8 @@ use Rattle.array.specs.Collection.{collection, collecting, handOver}
 use Rattle.array.specs.Lent.{rank, unitBytes}
 use Rattle.array.specs.Refusals.{collectRefusal, resultShort, stepReady}
 use Rattle.history.specs.Account.{Account}
-use Rattle.history.specs.History.{History, Whole}
 use Rattle.history.specs.Promise.{recordAt, blocksRead, Promise}
 use Rattle.history.specs.World.{World, Event, admit, step, report, collect, scan, decay, play}
-use Rattle.history.proofs.Events.{history-sure}
 use Rattle.history.proofs.Gather.{gathered-length, hand-over}
 use Rattle.history.proofs.Invariant.{Matches, Sure}
 use Rattle.history.proofs.Records.{mask-units}
@@ -163,7 +162,7 @@ module _ (w : World) (a : Account) (sure : Sure w a) where
       let next = progress (unitsOf st) (r .graph) (r .mask) (chosenAt st r) (r .done) wanting in
       (next .0, step-number w i (next .0) ∙ step-granted st (w .table) (w .work) (w .image) (sure .right) i (next .0) h o (next .1))
 
-  pub promise : Promise w a
+  pub promise : Promise play w a
   promise =
       record {
         reads = sure .read;
@@ -181,7 +180,3 @@ module _ (w : World) (a : Account) (sure : Sure w a) where
         lent-right = lent-right;
         progress = goes-on;
       }
-
--- DEMAND 3
-pub promised : {w : World} {a : Account} → History w a → Whole w → Promise w a
-promised {w} {a} h whole = promise w a (history-sure h whole)

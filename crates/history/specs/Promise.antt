@@ -1,4 +1,5 @@
--- Demand 3: what is promised of world w, reached by a history in which the array was never lost, and of the account a kept beside it.
+-- Demand 3: what is promised of a world w that an engine reached by a history in which the array was never lost, and of the account a that was
+-- kept beside it.
 -- Assumes nothing.
 use Prim.Native.Nat.{ℕ, _+_, _-_, _*_, _≤_, _<_}
 use mathlib.Core.Bool.{Bool, true, false}
@@ -16,8 +17,9 @@ use Rattle.record.specs.Life.{free, isFree, isOpen, isFinished, isWrite, unitsO
 use Rattle.record.specs.Sound.{sound, held}
 use Rattle.record.specs.declared.Record.{Record}
 use Rattle.history.specs.Account.{Account}
+use Rattle.history.specs.History.{History, Whole}
 use Rattle.history.specs.Row.{blockAt, restOf, gathered, parityOfRow}
-use Rattle.history.specs.World.{World, Event, step, collect, scan, play}
+use Rattle.history.specs.World.{World, Event, step, collect, scan, Engine}
 
 -- record i of the table
 abbrev pub recordAt : World → ℕ → Record
@@ -38,18 +40,18 @@ Out w c s = c ≡ outIn (w .state) s
 unfoldable pub blocksRead : State → List ℕ → ℕ → ℕ → List ℕ
 blocksRead st work i mask = gathered (unitsOf st) mask (λ u. part (readAt (st .cards) (st .block) i u) (st .block) work)
 
-pub record Promise (w : World) (a : Account) : Type 0 where
+pub record Promise (engine : Engine) (w : World) (a : Account) : Type 0 where
   -- a finished read has what the account noted, collected or not
   pub reads : (i : ℕ) → i < w .state .records → isFinished (recordAt w i) ≡ true → isWrite (recordAt w i) ≡ false
       → blocksRead (w .state) (w .work) i (recordAt w i .mask) ≡ a .entry i .due
   -- an accepted collect answers the account's count, and hands over what is due; the rest of the buffer stays
-  pub counts : (i : ℕ) (result : List ℕ) → play w (collect i result) .reply .number ≡ 0
-      → play w (collect i result) .reply ≡ accepted (a .entry i .steps) 0
-  pub collects : (i : ℕ) (result : List ℕ) → play w (collect i result) .reply .number ≡ 0
-      → play w (collect i result) .result ≡ a .entry i .due ++ drop (length (a .entry i .due)) result
+  pub counts : (i : ℕ) (result : List ℕ) → engine w (collect i result) .reply .number ≡ 0
+      → engine w (collect i result) .reply ≡ accepted (a .entry i .steps) 0
+  pub collects : (i : ℕ) (result : List ℕ) → engine w (collect i result) .reply .number ≡ 0
+      → engine w (collect i result) .result ≡ a .entry i .due ++ drop (length (a .entry i .due)) result
   -- a finished record can be collected into any buffer that has room for what is due
   pub collectable : (i : ℕ) (result : List ℕ) → i < w .state .records → isFinished (recordAt w i) ≡ true
-      → length (a .entry i .due) ≤ length result → play w (collect i result) .reply .number ≡ 0
+      → length (a .entry i .due) ≤ length result → engine w (collect i result) .reply .number ≡ 0
   -- a stripe with no open request holds the row on working cards
   pub units : (L : ℕ) → L < unitsOf (w .state) * w .state .stripes → Idle w (stripeOf (w .state .cards) L)
       → Works w (cardOf (w .state .cards) L) (stripeOf (w .state .cards) L)
@@ -63,7 +65,7 @@ pub record Promise (w : World) (a : Account) : Type 0 where
       → Out w (cardOf (w .state .cards) L) (stripeOf (w .state .cards) L)
       → restOf (w .state) (w .image) (cardOf (w .state .cards) L) (stripeOf (w .state .cards) L) ≡ a .row L
   -- with no card out, a scan finds parity right
-  pub scans : w .state .out ≡ none → play w scan .reply ≡ accepted 0 0
+  pub scans : w .state .out ≡ none → engine w scan .reply ≡ accepted 0 0
   -- no request takes more than 2n+3 accepted steps, and an open one has taken at most 2n+2
   pub most : (i : ℕ) → i < w .state .records → isFree (recordAt w i) ≡ false
       → a .entry i .steps ≤ 2 * unitsOf (w .state) + 3
@@ -71,7 +73,11 @@ pub record Promise (w : World) (a : Account) : Type 0 where
       → a .entry i .steps ≤ 2 * unitsOf (w .state) + 2
   -- the table is sound, and no call is refused for what it is lent: by 1, 2, 3 or 4
   pub is-sound : sound (w .state) (w .table) ≡ true
-  pub lent-right : (e : Event) → (play w e .reply .number ≡ 0) ⊎ (4 < play w e .reply .number)
+  pub lent-right : (e : Event) → (engine w e .reply .number ≡ 0) ⊎ (4 < engine w e .reply .number)
   -- an open request has a step that will be accepted
   pub progress : (i : ℕ) → i < w .state .records → isOpen (recordAt w i) ≡ true
-      → (k : ℕ) × (play w (step i k) .reply .number ≡ 0)
+      → (k : ℕ) × (engine w (step i k) .reply .number ≡ 0)
+
+-- an engine keeps the promise at the end of every history in which the array is never lost
+unfoldable pub Keeps : Engine → Type 0
+Keeps engine = (w : World) (a : Account) → History engine w a → Whole w → Promise engine w a
