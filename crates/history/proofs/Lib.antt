@@ -33,3 +33,4 @@ pub mod Independent
 pub mod Compute
 pub mod Starred
 pub mod Needed
+pub mod Impostors

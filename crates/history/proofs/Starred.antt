@@ -28,22 +28,22 @@ start4 = opened 4 1 255 (fill 0x11 ++ fill 0x22 ++ fill 0x44 ++ fill 0x77)
 -- a write of 33 to unit 1 admitted: its steps are 1 and 3 (reads of unit 1 and of parity), 4 (the exclusive or), 6 and 8 (writes of unit 1 and
 -- of parity)
 unfoldable pub writing : World
-writing = after start4 (admit true 0 2 (fill 0x33) ∷ [])
+writing = after play start4 (admit true 0 2 (fill 0x33) ∷ [])
 
 -- it is brought to its end; or unit 1's card goes out before its write, which then is chosen afresh: 0 and 2 (reads of the other units), 4, 8
 unfoldable pub written : World
-written = after writing (step 0 1 ∷ step 0 3 ∷ step 0 4 ∷ step 0 6 ∷ step 0 8 ∷ [])
+written = after play writing (step 0 1 ∷ step 0 3 ∷ step 0 4 ∷ step 0 6 ∷ step 0 8 ∷ [])
 
 unfoldable pub died : World
-died = after writing (step 0 1 ∷ step 0 3 ∷ step 0 4 ∷ report 1 ∷ step 0 6 ∷ [])
+died = after play writing (step 0 1 ∷ step 0 3 ∷ step 0 4 ∷ report 1 ∷ step 0 6 ∷ [])
 
 unfoldable pub mended : World
-mended = after died (step 0 0 ∷ step 0 2 ∷ step 0 4 ∷ step 0 8 ∷ [])
+mended = after play died (step 0 0 ∷ step 0 2 ∷ step 0 4 ∷ step 0 8 ∷ [])
 
 -- N = 3, a write of both units: 3 steps done (the exclusive or, the writes of unit 0 and of parity), then unit 1's card is out at the last one
 unfoldable pub longest : World
 longest =
-    after (opened 3 1 255 (fill 0 ++ fill 0 ++ fill 0))
+    after play (opened 3 1 255 (fill 0 ++ fill 0 ++ fill 0))
     (admit true 0 3 (fill 0x55 ++ fill 0x66) ∷ step 0 3 ∷ step 0 4 ∷ step 0 6 ∷ report 1 ∷ step 0 5 ∷ step 0 3 ∷ step 0 4 ∷ step 0 6 ∷ [])
 
 pub record Starred : Type 0 where
