@@ -5,3 +5,5 @@ pub mod Frames
 pub mod Steps
 pub mod Rank
 pub mod Kept
+pub mod Refused
+pub mod Bytes
