@@ -34,3 +34,4 @@ pub mod Compute
 pub mod Starred
 pub mod Needed
 pub mod Impostors
+pub mod Finish
