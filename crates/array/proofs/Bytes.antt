@@ -1,28 +1,24 @@
 -- Bytes stay bytes: where all that a call is lent are bytes, all that it leaves are.
 -- Assumes nothing.
-use Prim.Native.Nat.{ℕ, zero, suc, _+_, _*_, _≤_, _<_}
+use Prim.Native.Nat.{ℕ, zero, suc, _+_, _*_, _<_}
 use mathlib.Core.Bool.{Bool, true, false, cond}
 use mathlib.Core.List.{List, [], _∷_, _++_}
-use mathlib.Core.Path.{_≡_, refl}
 use native.Mathlib.Omega.{arith}
-use lib.Bits.{bitXor}
-use lib.Dec.{eqb}
 use lib.ListN.{length, getD, take, drop}
 use Rattle.terms.specs.Lists.{tabulate, part, put, changes}
-use Rattle.terms.specs.Sets.{bit, xorTo}
+use Rattle.terms.specs.Sets.{bit}
 use Rattle.block.proofs.Sums.{sum-lt}
 use Rattle.block.proofs.Xor.{xor-byte}
 use Rattle.geometry.specs.Store.{writeAt, readAt}
 use Rattle.geometry.specs.declared.State.{State}
-use Rattle.graph.specs.Steps.{Step, rd, xr, wr, nil, stepOf}
+use Rattle.graph.specs.Steps.{Step, rd, xr, wr, nil}
 use Rattle.graph.specs.Sums.{takesRead, takesNew}
-use Rattle.record.specs.Life.{unitsOf, chosenAt, missingIn}
+use Rattle.record.specs.Life.{unitsOf, chosenAt}
 use Rattle.record.specs.declared.Record.{Record}
-use Rattle.array.specs.Admission.{keepUnits, admission}
-use Rattle.array.specs.Collection.{handOver, collecting, collection}
+use Rattle.array.specs.Admission.{keepUnits}
+use Rattle.array.specs.Collection.{handOver}
 use Rattle.array.specs.Lent.{rank}
-use Rattle.array.specs.Refusals.{admitRefusal, stepRefusal, collectRefusal}
-use Rattle.array.specs.Stepping.{cellOf, meetsOut, sumByte, sumAt, workAfter, imageAfter, accepting, stepping}
+use Rattle.array.specs.Stepping.{cellOf, sumByte, sumAt, workAfter, imageAfter}
 
 -- every element is a byte
 pub data Bytes : List ℕ → Type 0 where

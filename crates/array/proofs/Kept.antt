@@ -1,18 +1,16 @@
 -- What admission of a write does to the work store: the units of its mask are kept, each in its own block to write, and nothing else changes.
 -- Assumes nothing.
-use Prim.Native.Nat.{ℕ, zero, suc, _+_, _-_, _*_, _≤_, _<_}
+use Prim.Native.Nat.{ℕ, zero, suc, _+_, _*_, _≤_, _<_}
 use mathlib.Core.Bool.{Bool, true, false, cond}
 use mathlib.Core.List.{List}
 use mathlib.Core.Logic.{_⊎_, inl, inr}
 use mathlib.Core.Path.{_≡_, refl, sym, ap, _∙_}
 use native.Mathlib.Nat.{mul-le-mul-right, not-suc-le-zero}
 use native.Mathlib.Omega.{arith}
-use lib.Count.{ones}
 use lib.ListN.{length, getD}
 use Rattle.terms.specs.Lists.{put, part, changes}
 use Rattle.terms.specs.Sets.{bit}
 use Rattle.terms.proofs.Lists.{length-part, getD-part}
-use Rattle.terms.proofs.Rows.{true≢false}
 use Rattle.terms.proofs.Sets.{below-suc}
 use Rattle.geometry.specs.Store.{writeAt, workSize}
 use Rattle.geometry.specs.declared.State.{State}

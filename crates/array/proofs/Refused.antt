@@ -1,23 +1,20 @@
 -- A refused call changes nothing, and answers the number of its table of refusals.
 -- Assumes nothing.
 use Prim.Native.Nat.{ℕ}
-use mathlib.Core.Bool.{Bool, true, false, cond}
+use mathlib.Core.Bool.{Bool}
 use mathlib.Core.List.{List}
 use mathlib.Core.Path.{_≡_, refl}
 use borrow.Author.Tests.{ne-eqb}
-use lib.Dec.{eqb}
-use lib.ListN.{getD}
 use Rattle.terms.specs.Reply.{refused}
-use Rattle.geometry.specs.Report.{Reporting, reporting, reportRefusal}
+use Rattle.geometry.specs.Report.{reporting, reportRefusal}
 use Rattle.geometry.specs.declared.Geometry.{Geometry}
 use Rattle.geometry.specs.declared.State.{State}
-use Rattle.record.specs.Life.{free}
 use Rattle.record.specs.declared.Record.{Record}
-use Rattle.array.specs.Admission.{Admission, admission}
-use Rattle.array.specs.Collection.{Collection, collection, collecting}
+use Rattle.array.specs.Admission.{admission}
+use Rattle.array.specs.Collection.{collection, collecting}
 use Rattle.array.specs.Opening.{opening, zeroState}
 use Rattle.array.specs.Refusals.{openRefusal, admitRefusal, stepRefusal, collectRefusal}
-use Rattle.array.specs.Stepping.{Stepping, stepping}
+use Rattle.array.specs.Stepping.{stepping}
 
 -- the new state is all zero, and the table stays
 pub open-refused : (g : Geometry) (out : ℕ) (table : List Record) (work image : List ℕ) → ¬ (openRefusal g out table work image ≡ 0)

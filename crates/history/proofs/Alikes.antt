@@ -1,18 +1,17 @@
 -- Every event of two worlds that differ at most in the bytes of the card that is out: the same answer, and such worlds again.
 -- Assumes nothing.
-use Prim.Native.Nat.{ℕ, _+_, _-_, _*_, _≤_, _<_}
+use Prim.Native.Nat.{ℕ, _<_}
 use mathlib.Core.Bool.{Bool, true, false, cond}
 use mathlib.Core.List.{List, []}
 use mathlib.Core.Logic.{_⊎_, inl, inr}
-use mathlib.Core.Path.{_≡_, refl, sym, ap, ap₂, _∙_, subst}
+use mathlib.Core.Path.{_≡_, refl, sym, ap, _∙_}
 use native.Mathlib.Omega.{arith}
 use borrow.Author.Tests.{eqb-true}
-use lib.Dec.{eqb, leb}
-use lib.ListN.{length}
+use lib.Dec.{eqb}
 use Rattle.terms.specs.Reply.{refused}
 use Rattle.terms.proofs.Rows.{truth}
 use Rattle.geometry.proofs.Bounds.{Bounds, within-limits}
-use Rattle.geometry.specs.Limits.{geometryOf, none, beyondState, isLost}
+use Rattle.geometry.specs.Limits.{geometryOf, none, beyondState}
 use Rattle.geometry.specs.Placement.{outIn}
 use Rattle.geometry.specs.Report.{reporting, reportRefusal, marked, withOut, withLost}
 use Rattle.geometry.specs.declared.State.{State}
@@ -25,7 +24,7 @@ use Rattle.array.specs.Admission.{Admission, admission}
 use Rattle.array.specs.Refusals.{stepRefusal, stepReady}
 use Rattle.array.specs.Stepping.{Stepping, meetsOut, accepting, stepping}
 use Rattle.stripe.proofs.Readied.{readied}
-use Rattle.history.specs.Answers.{Answer, answerTo, Alike}
+use Rattle.history.specs.Answers.{answerTo, Alike}
 use Rattle.history.specs.History.{Decayed}
 use Rattle.history.specs.Promise.{recordAt}
 use Rattle.history.specs.World.{World, Event, admit, step, report, collect, scan, decay, play}

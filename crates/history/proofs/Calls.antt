@@ -1,40 +1,32 @@
 -- A call of two worlds that differ at most in the bytes of the card that is out: the answers are the same, and the worlds that it leaves differ at
 -- most there too. No invariant is needed: it holds of every world.
 -- Assumes nothing.
-use Prim.Native.Nat.{ℕ, _+_, _-_, _*_, _≤_, _<_}
-use mathlib.Core.Bool.{Bool, true, false, cond}
-use mathlib.Core.List.{List, []}
+use Prim.Native.Nat.{ℕ, _+_, _≤_, _<_}
+use mathlib.Core.Bool.{true, false}
+use mathlib.Core.List.{List}
 use mathlib.Core.Logic.{_⊎_, inl, inr}
-use mathlib.Core.Path.{_≡_, refl, sym, ap, ap₂, _∙_, subst}
+use mathlib.Core.Path.{_≡_, refl, sym, _∙_}
 use native.Mathlib.Omega.{arith}
-use borrow.Author.Tests.{eqb-true, eqb-false, ne-eqb}
+use borrow.Author.Tests.{eqb-true, eqb-false}
 use lib.Dec.{eqb}
-use lib.ListN.{length, getD, set}
+use lib.ListN.{length, getD}
 use Rattle.terms.specs.Lists.{part, put}
-use Rattle.terms.specs.Reply.{Reply}
 use Rattle.terms.proofs.Lists.{length-part, part-cong}
-use Rattle.terms.proofs.Rows.{true≢false, truth}
+use Rattle.terms.proofs.Rows.{truth}
 use Rattle.geometry.proofs.Apart.{cell-inside, write-inside}
-use Rattle.geometry.proofs.Bounds.{Bounds, within-limits}
-use Rattle.geometry.specs.Limits.{geometryOf, none}
 use Rattle.geometry.specs.Placement.{cardAt, positionOf, outIn}
 use Rattle.geometry.specs.Placing.{Placing}
-use Rattle.geometry.specs.Report.{reporting, marked}
-use Rattle.geometry.specs.Store.{cellAt, writeAt, imageSize, workSize}
+use Rattle.geometry.specs.Store.{writeAt, imageSize, workSize}
 use Rattle.geometry.specs.declared.State.{State}
-use Rattle.graph.specs.Steps.{Step, rd, xr, wr, nil, stepOf}
+use Rattle.graph.specs.Steps.{Step, rd, xr, wr, nil}
 use Rattle.parity.specs.Parity.{byteAt}
-use Rattle.record.specs.Life.{free, isOpen, unitsOf, chosenAt, missingIn, stepped, afresh}
+use Rattle.record.specs.Life.{missingIn}
 use Rattle.record.specs.declared.Record.{Record}
 use Rattle.array.proofs.Frames.{cell-put-length, cell-put-same, cell-put-other}
-use Rattle.array.proofs.Passed.{Right, Ready, step-passed}
 use Rattle.array.proofs.Steps.{Within}
-use Rattle.array.specs.Refusals.{stepRefusal, stepReady}
-use Rattle.array.specs.Stepping.{Stepping, cellOf, meetsOut, workAfter, imageAfter, accepting, stepping}
+use Rattle.array.specs.Stepping.{cellOf, meetsOut, workAfter, imageAfter}
 use Rattle.history.specs.History.{Decayed}
-use Rattle.history.proofs.Placed.{layout}
 use Rattle.history.proofs.Places.{out-position}
-use Rattle.history.proofs.Tables.{Fit, fit, sound-elim, open-not-free}
 
 -- ---- a step, of two images
 

@@ -1,15 +1,15 @@
 -- An accepted collect frees a finished record, which holds no stripe: the world stays sure.
 -- Assumes nothing.
-use Prim.Native.Nat.{ℕ, _<_}
+use Prim.Native.Nat.{ℕ}
 use mathlib.Core.Bool.{Bool, true, false, cond}
 use mathlib.Core.List.{List}
 use mathlib.Core.Path.{_≡_, refl, sym, ap, _∙_, fun-ext, subst}
 use native.Mathlib.Omega.{arith}
 use borrow.Author.Tests.{eqb-true}
 use lib.Dec.{eqb}
-use lib.ListN.{length, set}
+use lib.ListN.{set}
 use Rattle.terms.proofs.Rows.{true≢false}
-use Rattle.record.specs.Life.{free, isOpen}
+use Rattle.record.specs.Life.{free}
 use Rattle.array.proofs.Passed.{Collecting}
 use Rattle.stripe.specs.Blocks.{changed}
 use Rattle.history.specs.Account.{Account, Entry}

@@ -1,18 +1,17 @@
 -- The bytes of the card that is out may turn to anything: the world stays sure, since nothing in it rests on them.
 -- Assumes nothing.
-use Prim.Native.Nat.{ℕ, _-_, _≤_, _<_}
-use mathlib.Core.Bool.{Bool, true, false}
+use Prim.Native.Nat.{ℕ, _≤_, _<_}
+use mathlib.Core.Bool.{true}
 use mathlib.Core.List.{List}
-use mathlib.Core.Path.{_≡_, refl, sym, _∙_}
+use mathlib.Core.Path.{_≡_, _∙_}
 use native.Mathlib.Omega.{arith}
 use Rattle.geometry.proofs.Bounds.{Bounds, within-limits}
 use Rattle.geometry.specs.Limits.{geometryOf}
-use Rattle.geometry.specs.Placement.{cardAt, positionOf, outIn}
-use Rattle.geometry.specs.Placing.{Placing}
+use Rattle.geometry.specs.Placement.{cardAt, outIn}
 use Rattle.geometry.specs.declared.State.{State}
 use Rattle.record.specs.Life.{isOpen, unitsOf, missingIn}
 use Rattle.stripe.proofs.Bytes.{bytes}
-use Rattle.stripe.proofs.Kept.{decayed-idle, decayed-faithful}
+use Rattle.stripe.proofs.Heart.{heart}
 use Rattle.history.specs.Account.{Account}
 use Rattle.history.specs.History.{Decayed}
 use Rattle.history.specs.Promise.{recordAt}
@@ -45,7 +44,7 @@ module _ (w : World) (a : Account) (sure : Sure w a) (image′ : List ℕ) (deca
       record {
         proper = was .proper;
         faithful = λ b hb.
-            decayed-faithful bytes (unitsOf st) (missingIn st (r .stripe)) _ _ _ _ (cellsOf st image′ (r .stripe) b)
+            heart bytes (unitsOf st) .decayed (missingIn st (r .stripe)) _ _ _ _ (cellsOf st image′ (r .stripe) b)
             (λ p l d. same-cell (r .stripe) b p hs hb l d) (was .faithful b hb);
       }
 
@@ -63,7 +62,7 @@ module _ (w : World) (a : Account) (sure : Sure w a) (image′ : List ℕ) (deca
         row-size = sure .row-size;
         entries = sure .entries;
         resting = λ s h free-now b hb.
-            decayed-idle bytes (unitsOf st) (missingIn st s) _ _ (cellsOf st image′ s b) (λ p l d. same-cell s b p h hb l d)
+            heart bytes (unitsOf st) .decayed-idle (missingIn st s) _ _ (cellsOf st image′ s b) (λ p l d. same-cell s b p h hb l d)
             (sure .resting s h free-now b hb);
         working = works;
         read = sure .read;

@@ -1,14 +1,13 @@
 -- An accepted step whose card works: it is done. While a step is wanting the record works on; with the last one its stripe rests on the row
 -- that the request leaves, and a read has the row's units.
 -- Assumes nothing.
-use Prim.Native.Nat.{ℕ, _+_, _-_, _*_, _≤_, _<_}
-use mathlib.Core.Bool.{Bool, true, false, cond, not, _&&_}
-use mathlib.Core.List.{List, []}
-use mathlib.Core.Path.{_≡_, refl, sym, ap, _∙_, subst}
+use Prim.Native.Nat.{ℕ, _≤_, _<_}
+use mathlib.Core.Bool.{Bool, true, false}
+use mathlib.Core.List.{List}
+use mathlib.Core.Path.{_≡_, refl, sym, _∙_, subst}
 use native.Mathlib.Omega.{arith}
 use borrow.Author.Tests.{eqb-true, lt-ltb}
-use lib.Dec.{eqb, ltb}
-use lib.ListN.{length, getD, set}
+use lib.ListN.{length, set}
 use lib.Seq.{ext-getD}
 use Rattle.terms.specs.Lists.{part}
 use Rattle.terms.specs.Sets.{bit}
@@ -21,16 +20,13 @@ use Rattle.geometry.specs.declared.State.{State}
 use Rattle.graph.specs.Order.{after, complete}
 use Rattle.graph.specs.Steps.{Step, stepOf, masked}
 use Rattle.graph.specs.Sums.{sumsToRead}
-use Rattle.record.specs.Life.{isFree, isOpen, isFinished, isWrite, unitsOf, chosenAt, missingIn, stepped}
+use Rattle.record.specs.Life.{isOpen, isFinished, isWrite, unitsOf, chosenAt, missingIn, stepped}
 use Rattle.record.specs.declared.Record.{Record}
-use Rattle.array.proofs.Frames.{gotByte}
 use Rattle.array.proofs.Passed.{Ready}
 use Rattle.array.proofs.Steps.{Standing, step-work-length, step-image-length, step-got-other, step-new-other, step-cell-other}
 use Rattle.array.specs.Stepping.{meetsOut, workAfter, imageAfter}
 use Rattle.stripe.proofs.Bytes.{bytes}
-use Rattle.stripe.proofs.Counts.{step-proper}
-use Rattle.stripe.proofs.Ends.{ended-idle, ended-read}
-use Rattle.stripe.proofs.Kept.{done-faithful}
+use Rattle.stripe.proofs.Heart.{numbers, heart}
 use Rattle.stripe.specs.Blocks.{changed}
 use Rattle.stripe.specs.Invariant.{Proper, Faithful}
 use Rattle.stripe.specs.Request.{Request, advanced}
@@ -111,7 +107,7 @@ module _ (w : World) (a : Account) (sure : Sure w a) (i k : ℕ) (ok : Ready (w 
   proper : Proper n x (requestOf st done)
   proper =
       subst (λ (q : Request). Proper n x q) (sym (request-advanced st r k))
-      (step-proper n x (requestOf st r) (works w a sure i k ok .proper) k (is-ready w a sure i k ok))
+      (numbers n .stepped x (requestOf st r) k (works w a sure i k ok .proper) (is-ready w a sure i k ok))
 
   faithful : (b : ℕ) → b < st .block
       → Faithful bytes n x (requestOf st done) (rowOf st (a .row) (r .stripe) b) (rowOf st (afterRow st (a .row) e) (r .stripe) b)
@@ -120,7 +116,7 @@ module _ (w : World) (a : Account) (sure : Sure w a) (i k : ℕ) (ok : Ready (w 
   faithful b hb =
       faithful-near bytes n x (requestOf st done) _ _ _ _ (two-below n x (requestOf st done) proper)
       (done-near st (w .work) (w .image) i r standing b hb x step (within w a sure i k ok))
-      (done-faithful bytes n x (requestOf st r) _ _ _ (works w a sure i k ok .proper) (works w a sure i k ok .faithful b hb) k
+      (heart bytes n .stepped x (requestOf st r) k _ _ _ (works w a sure i k ok .proper) (works w a sure i k ok .faithful b hb)
       (is-ready w a sure i k ok) (misses x step working))
 
   sound-done : Fit st done
@@ -176,7 +172,7 @@ module _ (w : World) (a : Account) (sure : Sure w a) (i k : ℕ) (ok : Ready (w 
 
     rests : Resting st image′ (afterRow st (a .row) e) (r .stripe)
     unfolding stepped
-    rests b hb = ended-idle bytes n x (requestOf st done) _ _ _ proper (faithful b hb) complete-now
+    rests b hb = heart bytes n .ended x (requestOf st done) _ _ _ proper (faithful b hb) complete-now
 
     -- a read's block of unit u is the row's
     unit-read : isWrite done ≡ false → (u : ℕ) → u < n → bit u (r .mask) ≡ true
@@ -187,7 +183,7 @@ module _ (w : World) (a : Account) (sure : Sure w a) (i k : ℕ) (ok : Ready (w 
         (λ b h.
         let hb : b < st .block = omega (arith, long) in
         getD-part (readAt (st .cards) (st .block) i u) (st .block) work′ b 0 hb
-        ∙ ended-read bytes n x (requestOf st done) _ _ _ proper (faithful b hb) complete-now reading u (rw (lt-ltb u n hu) m)
+        ∙ heart bytes n .ended-read x (requestOf st done) _ _ _ proper (faithful b hb) complete-now reading u (rw (lt-ltb u n hu) m)
         ∙ row-unit st (a .row) (r .stripe) b u hu)
       where
         long : length (part (readAt (st .cards) (st .block) i u) (st .block) work′) ≡ st .block

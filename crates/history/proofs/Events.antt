@@ -1,16 +1,16 @@
 -- Every event that can happen keeps the invariant, while the array is not lost; and so it holds at the end of every such history.
 -- Assumes nothing.
-use Prim.Native.Nat.{ℕ, _-_, _≤_, _<_}
-use mathlib.Core.Bool.{Bool, true, false, cond, not}
-use mathlib.Core.List.{List, [], _∷_}
+use Prim.Native.Nat.{ℕ, _<_}
+use mathlib.Core.Bool.{Bool, true, false, cond}
+use mathlib.Core.List.{List}
 use mathlib.Core.Logic.{_⊎_, inl, inr}
-use mathlib.Core.Path.{_≡_, refl, sym, ap, _∙_, subst}
+use mathlib.Core.Path.{_≡_, refl}
 use native.Mathlib.Omega.{arith}
-use borrow.Author.Tests.{eqb-true, eqb-false, eq-eqb, leb-false}
+use borrow.Author.Tests.{eqb-true, leb-false}
 use lib.Dec.{eqb, leb}
-use lib.ListN.{length, getD, set}
+use lib.ListN.{getD, set}
 use lib.Seq.{getD-set-same}
-use Rattle.terms.proofs.Rows.{true≢false, truth}
+use Rattle.terms.proofs.Rows.{truth}
 use Rattle.geometry.specs.Limits.{none, beyondState, isLost}
 use Rattle.geometry.specs.Report.{reporting, reportRefusal, marked, withOut, withLost}
 use Rattle.geometry.specs.declared.State.{State}

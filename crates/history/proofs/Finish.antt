@@ -2,16 +2,15 @@
 -- finished.
 -- Assumes nothing.
 use Prim.Native.Nat.{ℕ, zero, suc, _+_, _-_, _*_, _≤_, _<_}
-use mathlib.Core.Bool.{Bool, true, false, cond, _||_}
+use mathlib.Core.Bool.{Bool, true, false, cond}
 use mathlib.Core.List.{List, [], _∷_, map}
 use mathlib.Core.Logic.{_⊎_, inl, inr}
-use mathlib.Core.Path.{_≡_, refl, sym, ap, _∙_, subst}
+use mathlib.Core.Path.{_≡_, refl, sym, _∙_}
 use native.Mathlib.Omega.{arith}
-use borrow.Author.Tests.{eqb-true, eq-eqb}
+use borrow.Author.Tests.{eq-eqb}
 use lib.Dec.{eqb}
 use lib.ListN.{length, getD, set}
 use lib.Seq.{getD-set-same}
-use Rattle.terms.proofs.Rows.{true≢false, truth, or-cases}
 use Rattle.geometry.specs.declared.State.{State}
 use Rattle.record.specs.Life.{free, isOpen, isFinished, unitsOf, chosenAt, missingIn, stepped, afresh}
 use Rattle.record.specs.declared.Record.{Record}
@@ -22,7 +21,7 @@ use Rattle.graph.specs.Steps.{stepOf}
 use Rattle.history.specs.Account.{Account, counted, stepNoted, noted}
 use Rattle.history.specs.Examples.{after}
 use Rattle.history.specs.History.{Possible, History, next, Whole}
-use Rattle.history.specs.Promise.{recordAt, Promise}
+use Rattle.history.specs.Promise.{recordAt}
 use Rattle.history.specs.World.{World, Event, step, play}
 use Rattle.stripe.specs.Blocks.{changed}
 use Rattle.history.proofs.Events.{history-sure}

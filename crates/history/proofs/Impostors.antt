@@ -1,21 +1,21 @@
 -- The impostors of document 01, "What the contracts must settle", each an engine of its own. The first two are told from ours by an answer, as
 -- the contracts ask for; the others break the promise itself, in a run that is shown by computation.
 -- Assumes nothing.
-use Prim.Native.Nat.{ℕ, _+_, _*_, _<_}
-use mathlib.Core.Bool.{Bool, true, false, cond}
+use Prim.Native.Nat.{ℕ, _+_, _*_}
+use mathlib.Core.Bool.{true, false, cond}
 use mathlib.Core.List.{List, [], _∷_, _++_}
-use mathlib.Core.Path.{_≡_, refl, sym, ap, _∙_}
+use mathlib.Core.Path.{_≡_, refl, sym, ap}
 use native.Mathlib.Omega.{arith}
 use lib.Dec.{eqb, lit<}
-use lib.ListN.{length, getD, replicate}
+use lib.ListN.{getD, replicate}
 use Rattle.terms.specs.Reply.{Reply, accepted, refused, onAccept}
 use Rattle.record.specs.Life.{free, unitsOf}
 use Rattle.stripe.specs.Blocks.{changed}
 use Rattle.history.specs.Account.{Account, requested, counted, admissionNoted, stepNoted, noted}
 use Rattle.history.specs.Examples.{fill, small, opened, openedBook, after, kept}
-use Rattle.history.specs.History.{Possible, History, openedWorld, openedAccount, Whole}
+use Rattle.history.specs.History.{Possible, History, openedAccount, Whole}
 use Rattle.history.specs.History.{opened as begin, next}
-use Rattle.history.specs.Promise.{Promise, Keeps}
+use Rattle.history.specs.Promise.{Keeps}
 use Rattle.history.specs.Row.{openedRow, writtenRow, unitIn, gathered, unitsOfRow}
 use Rattle.history.specs.World.{World, Event, admit, step, report, collect, scan, decay, Outcome, Engine, play}
 use Rattle.history.proofs.Compute.{computed}

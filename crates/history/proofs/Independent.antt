@@ -1,10 +1,8 @@
 -- No answer and no byte of a working card depends on the bytes that a card holds while it is out: of whole histories.
 -- Assumes nothing.
 use Prim.Native.Nat.{ℕ}
-use mathlib.Core.Bool.{Bool}
 use mathlib.Core.List.{List, [], _∷_}
 use mathlib.Core.Path.{_≡_, refl, sym, ap, ap₂, _∙_, subst}
-use Rattle.terms.specs.Reply.{Reply}
 use Rattle.geometry.specs.declared.Geometry.{Geometry}
 use Rattle.geometry.specs.declared.State.{State}
 use Rattle.record.specs.declared.Record.{Record}

@@ -7,7 +7,6 @@ pub mod Invariant
 pub mod Gather
 pub mod Turn
 pub mod Collect
-pub mod Fresh
 pub mod Records
 pub mod Admit
 pub mod View

@@ -1,10 +1,10 @@
 -- The premises of demand 3 are needed: with one of them dropped there is a run, shown by computation, at whose end the promise is false.
 -- Assumes nothing.
-use Prim.Native.Nat.{ℕ, _≤_, _<_}
-use mathlib.Core.Bool.{Bool, true, false}
-use mathlib.Core.List.{List, [], _∷_, _++_}
+use Prim.Native.Nat.{ℕ, _<_}
+use mathlib.Core.Bool.{true}
+use mathlib.Core.List.{List, [], _∷_}
 use mathlib.Core.Logic.{_⊎_, inl, inr}
-use mathlib.Core.Path.{_≡_, refl, sym, ap, _∙_}
+use mathlib.Core.Path.{_≡_, refl, ap}
 use native.Mathlib.Omega.{arith}
 use lib.Dec.{lit<}
 use lib.ListN.{length, getD, replicate}
@@ -12,12 +12,12 @@ use Rattle.record.specs.Life.{free}
 use Rattle.record.specs.Sound.{sound}
 use Rattle.record.specs.declared.Record.{Record}
 use Rattle.history.specs.Account.{Account, noted}
-use Rattle.history.specs.Examples.{fill, small, opened}
+use Rattle.history.specs.Examples.{small}
 use Rattle.history.specs.History.{Possible, History, openedWorld, openedAccount, Whole}
 use Rattle.history.specs.History.{opened as begin, next}
 use Rattle.history.specs.Promise.{Promise}
 use Rattle.history.specs.Row.{openedRow}
-use Rattle.history.specs.World.{World, Event, report, decay, step, scan, play}
+use Rattle.history.specs.World.{World, report, decay, step, scan, play}
 use Rattle.history.proofs.Compute.{computed}
 
 -- three cards, one stripe, one record, every byte zero, none out

@@ -1,27 +1,25 @@
 -- From the invariant to the promise: what is due and what is counted, that no call is refused for what it is lent, and that every open request
 -- has a step to take.
 -- Assumes nothing.
-use Prim.Native.Nat.{ℕ, _+_, _-_, _*_, _≤_, _<_}
-use mathlib.Core.Bool.{Bool, true, false, cond, not, _&&_, _||_}
-use mathlib.Core.List.{List, [], _++_}
+use Prim.Native.Nat.{ℕ, _+_, _*_, _≤_, _<_}
+use mathlib.Core.Bool.{Bool, true, false, cond, not, _&&_}
+use mathlib.Core.List.{List, _++_}
 use mathlib.Core.Logic.{_⊎_, inl, inr}
-use mathlib.Core.Path.{_≡_, refl, sym, ap, ap₂, _∙_, subst}
+use mathlib.Core.Path.{_≡_, refl, sym, ap, ap₂, _∙_}
 use native.Mathlib.Omega.{arith}
 use borrow.Author.Tests.{leb-true, le-ltb, not-true}
-use lib.Count.{ones}
-use lib.Dec.{leb, ltb, eqb}
-use lib.ListN.{length, getD, drop}
+use lib.Dec.{leb, ltb}
+use lib.ListN.{length, drop}
 use Rattle.terms.specs.Lists.{part}
-use Rattle.terms.specs.Reply.{Reply, accepted}
+use Rattle.terms.specs.Reply.{accepted}
 use Rattle.terms.proofs.Lists.{length-part}
-use Rattle.terms.proofs.Rows.{true≢false, and-left, and-right, or-cases, truth}
+use Rattle.terms.proofs.Rows.{and-left, and-right, truth}
 use Rattle.geometry.proofs.Apart.{read-inside}
 use Rattle.geometry.proofs.Bounds.{Bounds, within-limits}
 use Rattle.geometry.specs.Limits.{geometryOf}
 use Rattle.geometry.specs.Store.{readAt}
 use Rattle.geometry.specs.declared.State.{State}
-use Rattle.graph.proofs.Laws.{progress}
-use Rattle.record.specs.Life.{free, isFree, isOpen, isFinished, isWrite, unitsOf, chosenAt}
+use Rattle.record.specs.Life.{isFree, isOpen, isFinished, isWrite, unitsOf}
 use Rattle.record.specs.Sound.{rightCount, lacksNone}
 use Rattle.record.specs.declared.Record.{Record}
 use Rattle.array.proofs.Granted.{Lently, admit-lent, step-lent, collect-lent, report-lent, scan-lent, step-granted, collect-granted}
@@ -30,15 +28,16 @@ use Rattle.array.proofs.Rank.{rank-all}
 use Rattle.array.specs.Collection.{collection, collecting, handOver}
 use Rattle.array.specs.Lent.{rank, unitBytes}
 use Rattle.array.specs.Refusals.{collectRefusal, resultShort, stepReady}
+use Rattle.stripe.proofs.Heart.{numbers}
 use Rattle.history.specs.Account.{Account}
 use Rattle.history.specs.Promise.{recordAt, blocksRead, Promise}
 use Rattle.history.specs.World.{World, Event, admit, step, report, collect, scan, decay, play}
 use Rattle.history.proofs.Gather.{gathered-length, hand-over}
-use Rattle.history.proofs.Invariant.{Matches, Sure}
+use Rattle.history.proofs.Invariant.{Matches, Sure, requestOf}
 use Rattle.history.proofs.Records.{mask-units}
 use Rattle.history.proofs.Replies.{admit-number, step-number, collect-number, report-number, scan-number}
 use Rattle.history.proofs.Stripes.{promised-unit, promised-parity, promised-inferred, promised-scan}
-use Rattle.history.proofs.Tables.{Fit, fit, sound-elim, open-not-free, finished-not-free, finished-not-open}
+use Rattle.history.proofs.Tables.{Fit, fit, sound-elim, open-not-free, finished-not-free}
 
 module _ (w : World) (a : Account) (sure : Sure w a) where
   abbrev st : State
@@ -159,7 +158,7 @@ module _ (w : World) (a : Account) (sure : Sure w a) where
       let r = recordAt w i in
       let count = fits i h (open-not-free r o) .right-count in
       let wanting = not-true (lacksNone st r) (and-left (not (lacksNone st r)) (leb (r .count) (2 * unitsOf st + 2)) (rw o at count)) in
-      let next = progress (unitsOf st) (r .graph) (r .mask) (chosenAt st r) (r .done) wanting in
+      let next = numbers (unitsOf st) .goes-on (requestOf st r) wanting in
       (next .0, step-number w i (next .0) ∙ step-granted st (w .table) (w .work) (w .image) (sure .right) i (next .0) h o (next .1))
 
   pub promise : Promise play w a

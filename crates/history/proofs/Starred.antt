@@ -2,8 +2,8 @@
 -- for a block filled with that byte.
 -- Assumes nothing.
 use Prim.Native.Nat.{ℕ}
-use mathlib.Core.Bool.{Bool, true, false, not, _||_, _&&_}
-use mathlib.Core.List.{List, [], _∷_, _++_}
+use mathlib.Core.Bool.{Bool, true, not, _||_, _&&_}
+use mathlib.Core.List.{[], _∷_, _++_}
 use mathlib.Core.Path.{_≡_, refl}
 use lib.Count.{ones}
 use lib.Dec.{eqb}
@@ -14,7 +14,7 @@ use Rattle.graph.specs.Choice.{choose}
 use Rattle.history.specs.Examples.{fill, opened, after}
 use Rattle.history.specs.Promise.{recordAt}
 use Rattle.history.specs.Row.{blockAt, restOf}
-use Rattle.history.specs.World.{World, Event, admit, step, report, collect, play}
+use Rattle.history.specs.World.{World, admit, step, report, collect, play}
 use Rattle.history.proofs.Compute.{computed}
 
 -- of all masks of 4 units for which the test holds, position x missing (5: none), graph g is chosen for a write

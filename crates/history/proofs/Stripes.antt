@@ -1,16 +1,15 @@
 -- The promise's part on stripes: a stripe with no open request holds the row and its parity on working cards, a missing unit is the exclusive
 -- or of the rest, and a scan finds parity right.
 -- Assumes nothing.
-use Prim.Native.Nat.{ℕ, suc, _+_, _-_, _*_, _≤_, _<_}
+use Prim.Native.Nat.{ℕ, suc, _*_, _≤_, _<_}
 use mathlib.Core.Bool.{Bool, true, false, cond}
 use mathlib.Core.List.{List}
-use mathlib.Core.Path.{_≡_, refl, sym, ap, _∙_, subst}
+use mathlib.Core.Path.{_≡_, refl, sym, ap, _∙_}
 use native.Mathlib.Omega.{arith}
 use borrow.Author.Tests.{eqb-false}
 use lib.Dec.{eqb}
 use lib.ListN.{length, getD}
 use lib.Seq.{ext-getD}
-use Rattle.terms.specs.Lists.{tabulate}
 use Rattle.terms.specs.Reply.{accepted}
 use Rattle.terms.specs.Sets.{xorTo}
 use Rattle.terms.proofs.Lists.{length-tabulate, getD-tabulate}
@@ -21,13 +20,13 @@ use Rattle.geometry.specs.Limits.{none, geometryOf}
 use Rattle.geometry.specs.Placement.{cardAt, positionOf, outIn, stripeOf, unitOf, cardOf, blockOf}
 use Rattle.geometry.specs.Placing.{Placing}
 use Rattle.geometry.specs.declared.State.{State}
-use Rattle.parity.specs.Parity.{byteAt, parityByte, rightParity}
-use Rattle.record.specs.Life.{unitsOf, missingIn}
+use Rattle.parity.specs.Parity.{parityByte}
+use Rattle.record.specs.Life.{unitsOf}
 use Rattle.record.specs.Sound.{held}
 use Rattle.array.proofs.Granted.{scan-granted}
 use Rattle.array.specs.Scan.{scanReply}
-use Rattle.stripe.proofs.Bytes.{bytes, sum-xor}
-use Rattle.stripe.specs.Invariant.{Idle, IsRow}
+use Rattle.stripe.proofs.Bytes.{sum-xor}
+use Rattle.stripe.specs.Invariant.{IsRow}
 use Rattle.history.specs.Account.{Account}
 use Rattle.history.specs.Promise.{Works, Out}
 use Rattle.history.specs.Row.{blockAt, restOf, parityOfRow}

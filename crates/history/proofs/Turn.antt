@@ -1,40 +1,37 @@
 -- A turn: one record is replaced, and what else changes is that record's blocks and one stripe. Then every other record and stripe stays sure,
 -- and the whole world is, if the record and the stripe themselves are.
 -- Assumes nothing.
-use Prim.Native.Nat.{ℕ, _+_, _-_, _*_, _≤_, _<_}
-use mathlib.Core.Bool.{Bool, true, false, cond}
+use Prim.Native.Nat.{ℕ, _*_, _≤_, _<_}
+use mathlib.Core.Bool.{true, false}
 use mathlib.Core.List.{List}
 use mathlib.Core.Logic.{_⊎_, inl, inr}
-use mathlib.Core.Path.{_≡_, refl, sym, ap, ap₂, _∙_, subst}
+use mathlib.Core.Path.{_≡_, refl, sym, ap, _∙_, subst}
 use native.Mathlib.Omega.{arith}
 use borrow.Author.Tests.{eqb-true, eqb-false, eq-eqb, ne-eqb}
 use lib.Dec.{eqb}
-use lib.ListN.{length, getD, set, length-set}
+use lib.ListN.{length, set, length-set}
 use lib.Seq.{getD-set-same, getD-set-other}
-use Rattle.terms.specs.Lists.{part}
 use Rattle.terms.proofs.Lists.{part-cong}
-use Rattle.terms.proofs.Rows.{true≢false, truth}
+use Rattle.terms.proofs.Rows.{truth}
 use Rattle.geometry.proofs.Apart.{read-inside}
 use Rattle.geometry.proofs.Bounds.{Bounds, within-limits}
 use Rattle.geometry.specs.Limits.{geometryOf}
 use Rattle.geometry.specs.Placement.{cardAt, blockOf}
-use Rattle.geometry.specs.Store.{readAt, workSize}
-use Rattle.geometry.specs.declared.State.{State}
+use Rattle.geometry.specs.Store.{readAt}
 use Rattle.parity.specs.Parity.{byteAt}
 use Rattle.record.specs.Life.{free, isFree, isOpen, isFinished, isWrite, unitsOf, missingIn}
-use Rattle.record.specs.Sound.{sound, soundRecord, held, holds}
+use Rattle.record.specs.Sound.{soundRecord, held, holds}
 use Rattle.record.specs.declared.Record.{Record}
 use Rattle.array.proofs.Frames.{newByte, gotByte}
-use Rattle.stripe.proofs.Kept.{decayed-idle}
+use Rattle.stripe.proofs.Heart.{heart}
 use Rattle.stripe.specs.Blocks.{changed}
-use Rattle.stripe.specs.Invariant.{Proper}
 use Rattle.history.specs.Account.{Account, Entry}
 use Rattle.history.specs.Promise.{recordAt, blocksRead}
 use Rattle.history.specs.World.{World}
 use Rattle.stripe.proofs.Bytes.{bytes}
 use Rattle.history.proofs.Gather.{gathered-cong}
 use Rattle.history.proofs.Invariant.{Matches, Working, Resting, Sure, requestOf}
-use Rattle.history.proofs.Near.{Near, faithful-near, two-below}
+use Rattle.history.proofs.Near.{faithful-near, two-below}
 use Rattle.history.proofs.Rows.{rowOf, afterRow, row-cong, after-cong}
 use Rattle.history.proofs.Tables.{Sound, sound-elim, sound-intro, held-elim, held-intro, holds-not, holds-elim, fit, open-not-free}
 
@@ -149,7 +146,7 @@ module _ (w : World) (a : Account) (sure : Sure w a) (i s : ℕ) (r′ : Record)
   resting-there : (t : ℕ) → ¬ (s ≡ t) → t < w .state .stripes → held (after .table) t ≡ false → Resting (w .state) image′ row′ t
   resting-there t d h free-now b hb =
       rw (row-there t b d h)
-      (decayed-idle bytes (unitsOf (w .state)) (missingIn (w .state) t) _ _ _
+      (heart bytes (unitsOf (w .state)) .decayed-idle (missingIn (w .state) t) _ _ _
       (λ p l m. turn .cell-others (cardAt (w .state .cards) t p) t b d h hb)
       (sure .resting t h (not-held t d free-now) b hb))
 

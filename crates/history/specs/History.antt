@@ -1,7 +1,7 @@
 -- Histories: an accepted opening, then calls, and decay of the card that is out at any moment. Nobody else alters anything.
 -- Assumes nothing.
 use Prim.Native.Nat.{ℕ, _<_}
-use mathlib.Core.Bool.{Bool, false}
+use mathlib.Core.Bool.{false}
 use mathlib.Core.List.{List, []}
 use mathlib.Core.Path.{_≡_}
 use lib.ListN.{length}
