@@ -2,7 +2,7 @@
 -- Assumes nothing.
 use Prim.Native.Nat.{ℕ, _<_}
 use mathlib.Core.Bool.{true}
-use mathlib.Core.List.{List, [], _∷_}
+use mathlib.Core.List.{List, [], _∷_, _++_}
 use mathlib.Core.Logic.{_⊎_, inl, inr}
 use mathlib.Core.Path.{_≡_, refl, ap}
 use native.Mathlib.Omega.{arith}
@@ -11,12 +11,13 @@ use lib.ListN.{length, getD, replicate}
 use Rattle.record.specs.Life.{free}
 use Rattle.record.specs.Sound.{sound}
 use Rattle.record.specs.declared.Record.{Record}
+use Rattle.array.specs.Opening.{opening}
 use Rattle.history.specs.Account.{Account, noted}
-use Rattle.history.specs.Examples.{small}
+use Rattle.history.specs.Examples.{fill, small}
 use Rattle.history.specs.History.{Possible, History, openedWorld, openedAccount, Whole}
 use Rattle.history.specs.History.{opened as begin, next}
 use Rattle.history.specs.Promise.{Promise}
-use Rattle.history.specs.Row.{openedRow}
+use Rattle.history.specs.Row.{blockAt, openedRow}
 use Rattle.history.specs.World.{World, report, decay, step, scan, play}
 use Rattle.history.proofs.Compute.{computed}
 
@@ -54,6 +55,18 @@ lost-array = (twice, noted play (play start (report 0) .world) (noted play start
     wrong : (_≡_ {A = ℕ} 4 0) ⊎ (_<_ 4 4) → ⊥
     wrong (inl e) = omega arith
     wrong (inr e) = omega arith
+
+-- and no engine could keep the row with two cards out: two arrays with right parity that agree on the one card left have different rows
+pub two-out : (image image′ : List ℕ)
+    × (opening (small 3 1) 255 (free ∷ []) (replicate 96 0) image .reply .number ≡ 0)
+    × (opening (small 3 1) 255 (free ∷ []) (replicate 96 0) image′ .reply .number ≡ 0)
+    × (blockAt (start .state) image 2 0 ≡ blockAt (start .state) image′ 2 0)
+    × (¬ (openedRow (start .state) image 0 ≡ openedRow (start .state) image′ 0))
+unfolding computed openedRow
+two-out = (zeros, fill 1 ++ fill 1 ++ fill 0, refl, refl, refl, wrong)
+  where
+    wrong : _≡_ {A = List ℕ} (fill 0) (fill 1) → ⊥
+    wrong e = let z : _≡_ {A = ℕ} 0 1 = ap (λ (l : List ℕ). getD l 0 0) e in omega arith
 
 -- ---- nobody alters a card that works: one byte of card 0 altered, and block 0 is not the row's
 
