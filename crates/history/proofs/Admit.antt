@@ -10,8 +10,7 @@ use lib.ListN.{length, getD, set}
 use Rattle.terms.specs.Sets.{bit}
 use Rattle.terms.proofs.Rows.{true≢false, and-right}
 use Rattle.terms.proofs.Sets.{lowest-holds}
-use Rattle.geometry.proofs.Bounds.{Bounds, within-limits}
-use Rattle.geometry.specs.Limits.{geometryOf}
+use Rattle.geometry.proofs.Bounds.{Bounds}
 use Rattle.graph.specs.Steps.{masked}
 use Rattle.record.specs.Life.{free, isFree, unitsOf, missingIn, admitted}
 use Rattle.record.specs.Sound.{lowestFree}
@@ -31,6 +30,7 @@ use Rattle.stripe.specs.Request.{Request, begun}
 use Rattle.history.specs.Account.{Account, Entry, requested}
 use Rattle.history.specs.Promise.{recordAt}
 use Rattle.history.specs.World.{World}
+use Rattle.history.proofs.Facts.{bounds}
 use Rattle.history.proofs.Invariant.{Matches, Working, Sure, viewOf}
 use Rattle.history.proofs.Records.{admitted-fit, request-begun, mask-some, mask-units}
 use Rattle.history.proofs.Rows.{rowOf, afterRow, row-is-row, after-read, after-masked, after-unmasked}
@@ -53,7 +53,7 @@ module _ (w : World) (a : Account) (sure : Sure w a) (write : Bool) (s mask : �
   stored = cond write (keepUnits (w .state) place mask payload (w .work)) (w .work)
 
   limits : Bounds (w .state .cards) (w .state .stripes) (w .state .block) (w .state .records)
-  limits = within-limits (geometryOf (w .state)) (w .state .out) (sure .right .limits)
+  limits = bounds (sure .right)
 
   below : place < w .state .records
   below = omega (arith, ok .some-free, sure .right .table-right)

@@ -29,10 +29,11 @@ use Rattle.history.specs.History.{Decayed}
 use Rattle.history.specs.Promise.{recordAt}
 use Rattle.history.specs.World.{World, Event, admit, step, report, collect, scan, decay, play}
 use Rattle.history.proofs.Calls.{work-same, image-same}
+use Rattle.history.proofs.Facts.{bounds, open-fits}
 use Rattle.history.proofs.Placed.{layout}
 use Rattle.history.proofs.Scans.{scan-same}
 use Rattle.history.proofs.Step.{kind-within}
-use Rattle.history.proofs.Tables.{Fit, fit, sound-elim, open-not-free}
+use Rattle.history.proofs.Tables.{Fit}
 use Rattle.history.proofs.Unseen.{admit-same, step-same}
 
 -- ---- images that agree on the cards that work
@@ -147,15 +148,13 @@ module _ (w : World) (image′ : List ℕ) (same : Decayed (w .state) (w .image)
         meets = meetsOut (missingIn (w .state) (r .stripe)) (stepOf n k)
 
         limits : Bounds (w .state .cards) (w .state .stripes) (w .state .block) (w .state .records)
-        limits = within-limits (geometryOf (w .state)) (w .state .out) (ok .right .limits)
+        limits = bounds (ok .right)
 
         some-card : 0 < w .state .cards
         some-card = omega (arith, limits .cards-low)
 
         fits : Fit (w .state) r
-        fits =
-            fit (w .state) r (sound-elim (w .state) (w .table) (ok .right .is-sound) .each i (omega (arith, ok .record-below, ok .right .table-right)))
-            (open-not-free r (ok .is-open))
+        fits = open-fits (ok .right) i (ok .record-below) (ok .is-open)
 
         within : Within (w .state .cards) (stepOf n k)
         within =

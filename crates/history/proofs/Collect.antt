@@ -15,8 +15,9 @@ use Rattle.stripe.specs.Blocks.{changed}
 use Rattle.history.specs.Account.{Account, Entry}
 use Rattle.history.specs.Promise.{recordAt}
 use Rattle.history.specs.World.{World}
+use Rattle.history.proofs.Facts.{open-fits}
 use Rattle.history.proofs.Invariant.{Sure}
-use Rattle.history.proofs.Tables.{sound-elim, fit, free-sound, open-not-free, finished-not-open}
+use Rattle.history.proofs.Tables.{free-sound, finished-not-open}
 use Rattle.history.proofs.Turn.{Turn, turned}
 
 -- to put back what stands there changes nothing
@@ -44,8 +45,7 @@ module _ (w : World) (a : Account) (sure : Sure w a) (i : ℕ) (result : List �
         old-here = λ o. true≢false (sym o ∙ finished-not-open (recordAt w i) (ok .is-finished));
         new-here = λ o. true≢false (sym o);
         alone = λ j h d o e.
-            let f = fit (w .state) (recordAt w j) (sound-elim (w .state) (w .table) (sure .right .is-sound) .each j (omega (arith, sure .right .table-right))) (open-not-free (recordAt w j) o) in
-            omega (arith, f .stripe-below);
+            omega (arith, open-fits (sure .right) j h o .stripe-below);
         own-sound = free-sound (w .state);
         own-entry = λ e. true≢false e;
         own-working = λ o. true≢false (sym o);

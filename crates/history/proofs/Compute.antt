@@ -29,6 +29,42 @@ use Rattle.history.specs.History.{openedWorld}
 use Rattle.history.specs.Row.{blockAt, restOf}
 use Rattle.history.specs.World.{play}
 
+unfoldable words : Unit {0}
+unfolding ones onesIn tabulate part put every changes firstRow within bit allBelow lowest xorTo
+words = tt
+
+unfoldable places : Unit {0}
+unfolding placeRefusal placeReply blockAtRefusal blockAtReply legal legalOut beyond parityCard cardAt positionOf outIn missingAt
+places = tt
+
+unfoldable stores : Unit {0}
+unfolding reportRefusal marked reporting imageSize cellAt workSize writeAt readAt imageWrong workWrong
+stores = tt
+
+unfoldable graphs : Unit {0}
+unfolding unitOut unitOutIn allUnits chooseRead chooseWrite choose stepOf byGraph masked unmasked reads sums writes member takesNew sumsToRead
+graphs = tt
+
+unfoldable orders : Unit {0}
+unfolding anyRead readOf isSum before cleared ready complete closed byteAt parityByte wrongByte wrongStripe rightParity disagreement
+orders = tt
+
+unfoldable records : Unit {0}
+unfolding admitted stepped afresh allZero legalMask legalRecord legalChosen rightGraph rightSteps lacksNone rightCount soundRecord
+records = tt
+
+unfoldable tables : Unit {0}
+unfolding clash apart sound holds held lowestFree tableWrong unitBytes rank
+tables = tt
+
+unfoldable refusals : Unit {0}
+unfolding openRefusal payloadWrong admitRefusal stepReady stepRefusal resultShort collectRefusal scanRefusal
+refusals = tt
+
+unfoldable calls : Unit {0}
+unfolding opening openedState keepUnits admission handOver collecting collection scanReply meetsOut sumByte sumAt workAfter imageAfter accepting stepping
+calls = tt
+
 unfoldable pub computed : Unit {0}
-unfolding ones onesIn tabulate part put every changes firstRow within bit allBelow lowest xorTo placeRefusal placeReply blockAtRefusal blockAtReply legal legalOut beyond parityCard cardAt positionOf outIn missingAt reportRefusal marked reporting imageSize cellAt workSize writeAt readAt imageWrong workWrong unitOut unitOutIn allUnits chooseRead chooseWrite choose anyRead readOf isSum before cleared ready complete closed stepOf byGraph masked unmasked reads sums writes member takesNew sumsToRead byteAt parityByte wrongByte wrongStripe rightParity disagreement admitted stepped afresh allZero legalMask legalRecord legalChosen rightGraph rightSteps lacksNone rightCount soundRecord clash apart sound holds held lowestFree keepUnits admission handOver collecting collection tableWrong unitBytes rank opening openedState openRefusal payloadWrong admitRefusal stepReady stepRefusal resultShort collectRefusal scanRefusal scanReply meetsOut sumByte sumAt workAfter imageAfter accepting stepping opened after openedWorld blockAt restOf play
+unfolding words places stores graphs orders records tables refusals calls opened after openedWorld blockAt restOf play
 computed = tt

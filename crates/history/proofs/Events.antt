@@ -91,8 +91,10 @@ module _ (w : World) (a : Account) (sure : Sure w a) where
       number : ℕ
       number = reportRefusal (w .state) c
 
-      first : number ≡ 0 → (eqb (w .state .out) none ≡ true) ⊎ (eqb (w .state .out) none ≡ false) → Whole (record { state = marked (w .state) c; table = w .table; work = w .work; image = w .image })
-          → Sure (record { state = marked (w .state) c; table = w .table; work = w .work; image = w .image }) a
+      left : World
+      left = record { state = marked (w .state) c; table = w .table; work = w .work; image = w .image }
+
+      first : number ≡ 0 → (eqb (w .state .out) none ≡ true) ⊎ (eqb (w .state .out) none ≡ false) → Whole left → Sure left a
       first e (inl f) whole = rw f (report-sure w a sure c (eqb-true (w .state .out) none f) (report-below (w .state) c e))
       first e (inr f) whole = let lost : _≡_ {A = ℕ} 1 0 = rw f at whole in absurd (omega arith)
 

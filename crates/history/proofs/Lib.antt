@@ -6,6 +6,7 @@ pub mod Positions
 pub mod Rows
 pub mod Gather
 pub mod Tables
+pub mod Facts
 pub mod Parities
 pub mod Near
 -- The invariant, and what one record's turn leaves of it

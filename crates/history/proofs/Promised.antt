@@ -15,8 +15,6 @@ use Rattle.terms.specs.Reply.{accepted}
 use Rattle.terms.proofs.Lists.{length-part}
 use Rattle.terms.proofs.Rows.{and-left, and-right, truth}
 use Rattle.geometry.proofs.Apart.{read-inside}
-use Rattle.geometry.proofs.Bounds.{Bounds, within-limits}
-use Rattle.geometry.specs.Limits.{geometryOf}
 use Rattle.geometry.specs.Store.{readAt}
 use Rattle.geometry.specs.declared.State.{State}
 use Rattle.record.specs.Life.{isFree, isOpen, isFinished, isWrite, unitsOf}
@@ -32,22 +30,17 @@ use Rattle.stripe.proofs.Heart.{numbers}
 use Rattle.history.specs.Account.{Account}
 use Rattle.history.specs.Promise.{recordAt, blocksRead, Promise}
 use Rattle.history.specs.World.{World, Event, admit, step, report, collect, scan, decay, play}
+use Rattle.history.proofs.Facts.{fits}
 use Rattle.history.proofs.Gather.{gathered-length, hand-over}
 use Rattle.history.proofs.Invariant.{Matches, Sure, requestOf}
 use Rattle.history.proofs.Records.{mask-units}
 use Rattle.history.proofs.Replies.{admit-number, step-number, collect-number, report-number, scan-number}
 use Rattle.history.proofs.Stripes.{promised-unit, promised-parity, promised-inferred, promised-scan}
-use Rattle.history.proofs.Tables.{Fit, fit, sound-elim, open-not-free, finished-not-free}
+use Rattle.history.proofs.Tables.{open-not-free, finished-not-free}
 
 module _ (w : World) (a : Account) (sure : Sure w a) where
   abbrev st : State
   st = w .state
-
-  limits : Bounds (st .cards) (st .stripes) (st .block) (st .records)
-  limits = within-limits (geometryOf st) (st .out) (sure .right .limits)
-
-  fits : (i : ℕ) → i < st .records → isFree (recordAt w i) ≡ false → Fit st (recordAt w i)
-  fits i h f = fit st (recordAt w i) (sound-elim st (w .table) (sure .right .is-sound) .each i (omega (arith, sure .right .table-right))) f
 
   -- ---- what is due of a finished record
 
@@ -75,7 +68,7 @@ module _ (w : World) (a : Account) (sure : Sure w a) where
     unfolding unitBytes
     bytes-due reading =
         ap (λ (k : ℕ). k * st .block)
-        (sym (rank-all (unitsOf st) (recordAt w i .mask) (mask-units (unitsOf st) (recordAt w i .mask) (fits i h (finished-not-free (recordAt w i) finished) .mask-legal))))
+        (sym (rank-all (unitsOf st) (recordAt w i .mask) (mask-units (unitsOf st) (recordAt w i .mask) (fits (sure .right) i h (finished-not-free (recordAt w i) finished) .mask-legal))))
         ∙ sym (due-length reading)
 
     -- what collect hands over
@@ -124,7 +117,7 @@ module _ (w : World) (a : Account) (sure : Sure w a) where
   most-open : (i : ℕ) → i < st .records → isOpen (recordAt w i) ≡ true → a .entry i .steps ≤ 2 * unitsOf st + 2
   unfolding rightCount
   most-open i h o =
-      let count = fits i h (open-not-free (recordAt w i) o) .right-count in
+      let count = fits (sure .right) i h (open-not-free (recordAt w i) o) .right-count in
       let l = leb-true (recordAt w i .count) (2 * unitsOf st + 2) (and-right (not (lacksNone st (recordAt w i))) _ (rw o at count)) in
       omega (arith, sure .entries i h (open-not-free (recordAt w i) o) .same-count)
 
@@ -135,7 +128,7 @@ module _ (w : World) (a : Account) (sure : Sure w a) where
       go : (isOpen (recordAt w i) ≡ true) ⊎ (isOpen (recordAt w i) ≡ false) → a .entry i .steps ≤ 2 * unitsOf st + 3
       go (inl o) = omega (arith, most-open i h o)
       go (inr o) =
-          let count = fits i h f .right-count in
+          let count = fits (sure .right) i h f .right-count in
           let l = leb-true (recordAt w i .count) (2 * unitsOf st + 3) (and-right (lacksNone st (recordAt w i)) _ (rw o at count)) in
           omega (arith, sure .entries i h f .same-count)
 
@@ -156,7 +149,7 @@ module _ (w : World) (a : Account) (sure : Sure w a) where
   unfolding rightCount lacksNone stepReady
   goes-on i h o =
       let r = recordAt w i in
-      let count = fits i h (open-not-free r o) .right-count in
+      let count = fits (sure .right) i h (open-not-free r o) .right-count in
       let wanting = not-true (lacksNone st r) (and-left (not (lacksNone st r)) (leb (r .count) (2 * unitsOf st + 2)) (rw o at count)) in
       let next = numbers (unitsOf st) .goes-on (requestOf st r) wanting in
       (next .0, step-number w i (next .0) ∙ step-granted st (w .table) (w .work) (w .image) (sure .right) i (next .0) h o (next .1))

@@ -8,8 +8,8 @@ use native.Mathlib.Omega.{arith}
 use borrow.Author.Tests.{eqb-true, eq-eqb, lt-ltb, not-false}
 use lib.Dec.{eqb, ltb}
 use Rattle.terms.proofs.Rows.{and-left, and-both, or-cases}
-use Rattle.geometry.proofs.Bounds.{Bounds, within-limits}
-use Rattle.geometry.specs.Limits.{none, legal, legalOut, beyond, beyondState, geometryOf}
+use Rattle.geometry.proofs.Bounds.{Bounds}
+use Rattle.geometry.specs.Limits.{none, legal, legalOut, beyond, beyondState}
 use Rattle.geometry.specs.Placement.{outIn}
 use Rattle.geometry.specs.Report.{withOut}
 use Rattle.geometry.specs.declared.State.{State}
@@ -23,6 +23,7 @@ use Rattle.history.specs.Account.{Account, Entry}
 use Rattle.history.specs.Promise.{recordAt, blocksRead}
 use Rattle.history.specs.Row.{writtenRow, unitIn}
 use Rattle.history.specs.World.{World}
+use Rattle.history.proofs.Facts.{bounds}
 use Rattle.history.proofs.Invariant.{Matches, Working, Sure}
 use Rattle.history.proofs.Places.{missing-none}
 use Rattle.history.proofs.Rows.{rowOf, afterRow}
@@ -36,7 +37,7 @@ module _ (w : World) (a : Account) (sure : Sure w a) (c : ℕ) (none-out : w .st
   out = withOut st c
 
   limits : Bounds (st .cards) (st .stripes) (st .block) (st .records)
-  limits = within-limits (geometryOf st) (st .out) (sure .right .limits)
+  limits = bounds (sure .right)
 
   -- no position of a stripe was missing
   none-missing : (s : ℕ) → unitsOf st < missingIn st s

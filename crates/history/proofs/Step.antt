@@ -9,8 +9,7 @@ use borrow.Author.Tests.{eqb-true, eq-eqb}
 use lib.Dec.{eqb}
 use lib.ListN.{length, set}
 use Rattle.terms.proofs.Rows.{true≢false}
-use Rattle.geometry.proofs.Bounds.{Bounds, within-limits}
-use Rattle.geometry.specs.Limits.{geometryOf}
+use Rattle.geometry.proofs.Bounds.{Bounds}
 use Rattle.graph.specs.Order.{ready}
 use Rattle.graph.specs.Steps.{Step, rd, xr, wr, nil, stepOf}
 use Rattle.record.specs.Life.{isOpen, unitsOf, chosenAt, missingIn, afresh}
@@ -28,10 +27,11 @@ use Rattle.stripe.specs.Request.{Request, chosenAfresh}
 use Rattle.history.specs.Account.{Account, counted}
 use Rattle.history.specs.Promise.{recordAt}
 use Rattle.history.specs.World.{World}
+use Rattle.history.proofs.Facts.{bounds, open-fits}
 use Rattle.history.proofs.Invariant.{Matches, Working, Sure, requestOf}
 use Rattle.history.proofs.Records.{afresh-fit, request-afresh}
 use Rattle.history.proofs.Rows.{afterRow}
-use Rattle.history.proofs.Tables.{Fit, Sound, fit, fit-sound, sound-elim, open-not-free}
+use Rattle.history.proofs.Tables.{Fit, Sound, fit-sound, sound-elim, open-not-free}
 use Rattle.history.proofs.Turn.{Turn, turned}
 
 -- ---- a step meets the missing position, or does not
@@ -74,7 +74,7 @@ module _ (w : World) (a : Account) (sure : Sure w a) (i k : ℕ) (ok : Ready (w 
   x = missingIn (w .state) (r .stripe)
 
   pub limits : Bounds (w .state .cards) (w .state .stripes) (w .state .block) (w .state .records)
-  limits = within-limits (geometryOf (w .state)) (w .state .out) (sure .right .limits)
+  limits = bounds (sure .right)
 
   table-sound : Sound (w .state) (w .table)
   table-sound = sound-elim (w .state) (w .table) (sure .right .is-sound)
@@ -83,7 +83,7 @@ module _ (w : World) (a : Account) (sure : Sure w a) (i k : ℕ) (ok : Ready (w 
   in-table = omega (arith, ok .record-below, sure .right .table-right)
 
   pub fits : Fit (w .state) r
-  fits = fit (w .state) r (table-sound .each i in-table) (open-not-free r (ok .is-open))
+  fits = open-fits (sure .right) i (ok .record-below) (ok .is-open)
 
   pub works : Working (w .state) (w .work) (w .image) (a .row) (a .entry i) i r
   works = sure .working i (ok .record-below) (ok .is-open)

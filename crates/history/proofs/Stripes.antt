@@ -15,8 +15,8 @@ use Rattle.terms.specs.Sets.{xorTo}
 use Rattle.terms.proofs.Lists.{length-tabulate, getD-tabulate}
 use Rattle.terms.proofs.Sets.{xorTo-cong}
 use Rattle.block.proofs.Sums.{others, sum-zero-term}
-use Rattle.geometry.proofs.Bounds.{Bounds, within-limits}
-use Rattle.geometry.specs.Limits.{none, geometryOf}
+use Rattle.geometry.proofs.Bounds.{Bounds}
+use Rattle.geometry.specs.Limits.{none}
 use Rattle.geometry.specs.Placement.{cardAt, positionOf, outIn, stripeOf, unitOf, cardOf, blockOf}
 use Rattle.geometry.specs.Placing.{Placing}
 use Rattle.geometry.specs.declared.State.{State}
@@ -31,6 +31,7 @@ use Rattle.history.specs.Account.{Account}
 use Rattle.history.specs.Promise.{Works, Out}
 use Rattle.history.specs.Row.{blockAt, restOf, parityOfRow}
 use Rattle.history.specs.World.{World, scan, play}
+use Rattle.history.proofs.Facts.{bounds}
 use Rattle.history.proofs.Invariant.{Sure, cellsOf}
 use Rattle.history.proofs.Parities.{right-intro}
 use Rattle.history.proofs.Placed.{layout}
@@ -47,7 +48,7 @@ module _ (w : World) (a : Account) (sure : Sure w a) where
   N = st .cards
 
   limits : Bounds N (st .stripes) (st .block) (st .records)
-  limits = within-limits (geometryOf st) (st .out) (sure .right .limits)
+  limits = bounds (sure .right)
 
   some-card : 0 < N
   some-card = omega (arith, limits .cards-low)

@@ -14,8 +14,7 @@ use lib.Seq.{getD-set-same, getD-set-other}
 use Rattle.terms.proofs.Lists.{part-cong}
 use Rattle.terms.proofs.Rows.{truth}
 use Rattle.geometry.proofs.Apart.{read-inside}
-use Rattle.geometry.proofs.Bounds.{Bounds, within-limits}
-use Rattle.geometry.specs.Limits.{geometryOf}
+use Rattle.geometry.proofs.Bounds.{Bounds}
 use Rattle.geometry.specs.Placement.{cardAt, blockOf}
 use Rattle.geometry.specs.Store.{readAt}
 use Rattle.parity.specs.Parity.{byteAt}
@@ -29,11 +28,12 @@ use Rattle.history.specs.Account.{Account, Entry}
 use Rattle.history.specs.Promise.{recordAt, blocksRead}
 use Rattle.history.specs.World.{World}
 use Rattle.stripe.proofs.Bytes.{bytes}
+use Rattle.history.proofs.Facts.{bounds, open-fits}
 use Rattle.history.proofs.Gather.{gathered-cong}
 use Rattle.history.proofs.Invariant.{Matches, Working, Resting, Sure, requestOf}
 use Rattle.history.proofs.Near.{faithful-near, two-below}
 use Rattle.history.proofs.Rows.{rowOf, afterRow, row-cong, after-cong}
-use Rattle.history.proofs.Tables.{Sound, sound-elim, sound-intro, held-elim, held-intro, holds-not, holds-elim, fit, open-not-free}
+use Rattle.history.proofs.Tables.{Sound, sound-elim, sound-intro, held-elim, held-intro, holds-not, holds-elim}
 
 -- record i becomes r′, the work store, the image and the row become these, and the account's entry e′; the state stays. Of stripe s
 pub record Turn (w : World) (a : Account) (i s : ℕ) (r′ : Record) (work′ image′ : List ℕ) (row′ : ℕ → List ℕ) (e′ : Entry) : Type 0 where
@@ -173,7 +173,7 @@ module _ (w : World) (a : Account) (sure : Sure w a) (i s : ℕ) (r′ : Record)
   -- ---- other records
 
   limits : Bounds (w .state .cards) (w .state .stripes) (w .state .block) (w .state .records)
-  limits = within-limits (geometryOf (w .state)) (w .state .out) (sure .right .limits)
+  limits = bounds (sure .right)
 
   position-below : (q : ℕ) → q ≤ unitsOf (w .state) → q < w .state .cards
   position-below q l = omega (arith, limits .cards-low)
@@ -183,7 +183,7 @@ module _ (w : World) (a : Account) (sure : Sure w a) (i s : ℕ) (r′ : Record)
     working-there o =
         let off = turn .alone j h d o in
         let t = recordAt w j .stripe in
-        let ht = fit (w .state) (recordAt w j) (old .each j (omega (arith, sure .right .table-right))) (open-not-free (recordAt w j) o) .stripe-below in
+        let ht = open-fits (sure .right) j h o .stripe-below in
         record {
           proper = sure .working j h o .proper;
           faithful = λ b hb.
