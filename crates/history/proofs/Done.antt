@@ -1,8 +1,8 @@
 -- An accepted step whose card works: it is done. While a step is wanting the record works on; with the last one its stripe rests on the row
 -- that the request leaves, and a read has the row's units.
 -- Assumes nothing.
-use Prim.Native.Nat.{ℕ, _≤_, _<_}
-use mathlib.Core.Bool.{Bool, true, false}
+use Prim.Native.Nat.{ℕ, _*_, _≤_, _<_}
+use mathlib.Core.Bool.{Bool, true, false, cond, not}
 use mathlib.Core.List.{List}
 use mathlib.Core.Path.{_≡_, refl, sym, _∙_, subst}
 use native.Mathlib.Omega.{arith}
@@ -42,7 +42,7 @@ use Rattle.history.proofs.Places.{block-below}
 use Rattle.history.proofs.Records.{stepped-fit, request-advanced}
 use Rattle.history.proofs.Rows.{rowOf, afterRow, row-unit, after-elsewhere, after-size}
 use Rattle.history.proofs.Step.{limits, fits, works, matches, no-other, is-ready, within, counted-matches, misses}
-use Rattle.history.proofs.Tables.{Fit, fit-sound, finished-not-open, open-not-finished}
+use Rattle.history.proofs.Tables.{Fit, fit-sound}
 use Rattle.history.proofs.Turn.{Turn, turned}
 use Rattle.history.proofs.View.{done-near}
 
@@ -126,50 +126,15 @@ module _ (w : World) (a : Account) (sure : Sure w a) (i k : ℕ) (ok : Ready (w 
   unfolding stepped
   matches-done t = counted-matches w a sure i k ok done t refl refl refl refl
 
-  -- ---- a step is wanting
+  -- ---- while a step is wanting the record works on
 
-  module _ (wanting : last ≡ false) where
-    works-on : Working st work′ image′ (a .row) (counted st (a .row) e false) i done
-    unfolding stepped counted afterRow
-    works-on = record { proper = proper; faithful = faithful }
+  works-on : Working st work′ image′ (a .row) (counted st (a .row) e false) i done
+  unfolding stepped counted afterRow
+  works-on = record { proper = proper; faithful = faithful }
 
-    is-open : isOpen done ≡ true
-    unfolding stepped
-    is-open = rw wanting
-
-    turn-on : Turn w a i (r .stripe) done work′ image′ (a .row) (counted st (a .row) e false)
-    unfolding stepped
-    turn-on =
-        record {
-          below = ok .record-below;
-          same-work = step-work-length st (w .work) (w .image) i r standing step (within w a sure i k ok);
-          same-image = step-image-length st (w .work) (w .image) i r standing step (within w a sure i k ok);
-          got-others = step-got-other st (w .work) (w .image) i r standing step (within w a sure i k ok);
-          new-others = step-new-other st (w .work) (w .image) i r standing step (within w a sure i k ok);
-          cell-others = step-cell-other st (w .work) (w .image) i r standing step (within w a sure i k ok);
-          row-others = λ t u d h l. refl;
-          row-size = sure .row-size;
-          old-here = λ o. refl;
-          new-here = λ o. refl;
-          alone = no-other w a sure i k ok;
-          own-sound = fit-sound st done sound-done;
-          own-entry = λ f. matches-done false;
-          own-working = λ o. works-on;
-          own-read = λ f g. true≢false (sym f ∙ open-not-finished done is-open);
-          own-resting = λ h o. true≢false (sym is-open ∙ o);
-        }
-
-    pub done-sure : Sure (record { state = st; table = set (w .table) i done; work = work′; image = image′ })
-        (record { row = a .row; entry = changed (a .entry) i (counted st (a .row) e false) })
-    done-sure = turned w a sure i (r .stripe) done work′ image′ (a .row) (counted st (a .row) e false) turn-on
-
-  -- ---- it was the last
+  -- ---- with the last one its stripe rests, and a read has its units
 
   module _ (complete-now : last ≡ true) where
-    is-finished : isFinished done ≡ true
-    unfolding stepped
-    is-finished = rw complete-now
-
     rests : Resting st image′ (afterRow st (a .row) e) (r .stripe)
     unfolding stepped
     rests b hb = heart bytes n .ended x (requestOf st done) _ _ _ proper (faithful b hb) complete-now
@@ -205,28 +170,65 @@ module _ (w : World) (a : Account) (sure : Sure w a) (i k : ℕ) (ok : Ready (w 
         rw (sym (matches w a sure i k ok .same-kind) ∙ reading, ← matches w a sure i k ok .same-mask, ← matches w a sure i k ok .same-stripe)
         (gathered-cong (r .mask) n _ _ (unit-read reading))
 
-    turn-last : Turn w a i (r .stripe) done work′ image′ (afterRow st (a .row) e) (counted st (a .row) e true)
-    unfolding stepped
-    turn-last =
-        record {
-          below = ok .record-below;
-          same-work = step-work-length st (w .work) (w .image) i r standing step (within w a sure i k ok);
-          same-image = step-image-length st (w .work) (w .image) i r standing step (within w a sure i k ok);
-          got-others = step-got-other st (w .work) (w .image) i r standing step (within w a sure i k ok);
-          new-others = step-new-other st (w .work) (w .image) i r standing step (within w a sure i k ok);
-          cell-others = step-cell-other st (w .work) (w .image) i r standing step (within w a sure i k ok);
-          row-others = λ t u d h l. after-elsewhere st (a .row) e t u (λ f. d (matches w a sure i k ok .same-stripe ∙ f)) l;
-          row-size = λ L h. after-size st (a .row) e (matches w a sure i k ok .paid) L (sure .row-size L h);
-          old-here = λ o. refl;
-          new-here = λ o. refl;
-          alone = no-other w a sure i k ok;
-          own-sound = fit-sound st done sound-done;
-          own-entry = λ f. matches-done true;
-          own-working = λ o. true≢false (sym o ∙ finished-not-open done is-finished);
-          own-read = λ f g. units-read g;
-          own-resting = λ h o. rests;
-        }
+  -- ---- the turn, the last one or not
 
-    pub finished-sure : Sure (record { state = st; table = set (w .table) i done; work = work′; image = image′ })
-        (record { row = afterRow st (a .row) e; entry = changed (a .entry) i (counted st (a .row) e true) })
-    finished-sure = turned w a sure i (r .stripe) done work′ image′ (afterRow st (a .row) e) (counted st (a .row) e true) turn-last
+  -- open while a step is wanting, and finished after the last
+  open-is : (t : Bool) → last ≡ t → isOpen done ≡ not t
+  unfolding stepped
+  open-is true f = rw f
+  open-is false f = rw f
+
+  finished-is : (t : Bool) → last ≡ t → isFinished done ≡ t
+  unfolding stepped
+  finished-is true f = rw f
+  finished-is false f = rw f
+
+  -- the last step leaves the request's row
+  abbrev rowNow : Bool → ℕ → List ℕ
+  rowNow t = cond t (afterRow st (a .row) e) (a .row)
+
+  row-others : (t : Bool) (s u : ℕ) → ¬ (r .stripe ≡ s) → u < n → rowNow t (blockOf (st .cards) s u) ≡ a .row (blockOf (st .cards) s u)
+  row-others true s u d l = after-elsewhere st (a .row) e s u (λ f. d (matches w a sure i k ok .same-stripe ∙ f)) l
+  row-others false s u d l = refl
+
+  row-size : (t : Bool) (L : ℕ) → L < n * st .stripes → length (rowNow t L) ≡ st .block
+  row-size true L h = after-size st (a .row) e (matches w a sure i k ok .paid) L (sure .row-size L h)
+  row-size false L h = sure .row-size L h
+
+  own-working : (t : Bool) → last ≡ t → isOpen done ≡ true → Working st work′ image′ (rowNow t) (counted st (a .row) e t) i done
+  own-working true f o = true≢false (sym o ∙ open-is true f)
+  own-working false f o = works-on
+
+  own-read : (t : Bool) → last ≡ t → isFinished done ≡ true → isWrite done ≡ false → blocksRead st work′ i (done .mask) ≡ counted st (a .row) e t .due
+  own-read true f g reading = units-read f reading
+  own-read false f g reading = true≢false (sym g ∙ finished-is false f)
+
+  own-resting : (t : Bool) → last ≡ t → isOpen done ≡ false → Resting st image′ (rowNow t) (r .stripe)
+  own-resting true f o = rests f
+  own-resting false f o = true≢false (sym (open-is false f) ∙ o)
+
+  turn : (t : Bool) → last ≡ t → Turn w a i (r .stripe) done work′ image′ (rowNow t) (counted st (a .row) e t)
+  unfolding stepped
+  turn t f =
+      record {
+        below = ok .record-below;
+        same-work = step-work-length st (w .work) (w .image) i r standing step (within w a sure i k ok);
+        same-image = step-image-length st (w .work) (w .image) i r standing step (within w a sure i k ok);
+        got-others = step-got-other st (w .work) (w .image) i r standing step (within w a sure i k ok);
+        new-others = step-new-other st (w .work) (w .image) i r standing step (within w a sure i k ok);
+        cell-others = step-cell-other st (w .work) (w .image) i r standing step (within w a sure i k ok);
+        row-others = λ s u d h l. row-others t s u d l;
+        row-size = row-size t;
+        old-here = λ o. refl;
+        new-here = λ o. refl;
+        alone = no-other w a sure i k ok;
+        own-sound = fit-sound st done sound-done;
+        own-entry = λ g. matches-done t;
+        own-working = own-working t f;
+        own-read = own-read t f;
+        own-resting = λ h o. own-resting t f o;
+      }
+
+  pub done-sure : (t : Bool) → last ≡ t → Sure (record { state = st; table = set (w .table) i done; work = work′; image = image′ })
+      (record { row = rowNow t; entry = changed (a .entry) i (counted st (a .row) e t) })
+  done-sure t f = turned w a sure i (r .stripe) done work′ image′ (rowNow t) (counted st (a .row) e t) (turn t f)

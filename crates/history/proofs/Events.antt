@@ -30,7 +30,7 @@ use Rattle.history.specs.World.{World, Event, admit, step, report, colle
 use Rattle.history.proofs.Admit.{admit-sure}
 use Rattle.history.proofs.Collect.{collect-sure}
 use Rattle.history.proofs.Decay.{decay-sure}
-use Rattle.history.proofs.Done.{done-sure, finished-sure}
+use Rattle.history.proofs.Done.{done-sure}
 use Rattle.history.proofs.Invariant.{Sure}
 use Rattle.history.proofs.Opened.{open-passed, open-sure}
 use Rattle.history.proofs.Report.{report-sure}
@@ -128,8 +128,8 @@ module _ (w : World) (a : Account) (sure : Sure w a) where
         done : meets ≡ false → (last ≡ true) ⊎ (last ≡ false)
             → Sure (record { state = w .state; table = made .table; work = made .work; image = made .image })
             (cond (eqb (made .reply .number) 0) (stepNoted (w .state) a i (isFinished (getD (made .table) i free))) a)
-        done e (inl l) = rw (e, put-there (stepped (w .state) r k), finished-last (w .state) r k, l) (finished-sure w a sure i k ok e l)
-        done e (inr l) = rw (e, put-there (stepped (w .state) r k), finished-last (w .state) r k, l) (done-sure w a sure i k ok e l)
+        done e (inl l) = rw (e, put-there (stepped (w .state) r k), finished-last (w .state) r k, l) (done-sure w a sure i k ok e true l)
+        done e (inr l) = rw (e, put-there (stepped (w .state) r k), finished-last (w .state) r k, l) (done-sure w a sure i k ok e false l)
 
         go : (meets ≡ true) ⊎ (meets ≡ false)
             → Sure (record { state = w .state; table = made .table; work = made .work; image = made .image })

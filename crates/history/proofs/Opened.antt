@@ -13,6 +13,7 @@ use Rattle.terms.specs.Reply.{Reply, row, refused, refusedOr13}
 use Rattle.terms.proofs.Rows.{true≢false, or-false-left, or-false-right}
 use Rattle.geometry.proofs.Bounds.{Bounds, within-limits, within-limits-out}
 use Rattle.geometry.specs.Limits.{none, beyond}
+use Rattle.geometry.proofs.Turns.{missingAt-is}
 use Rattle.geometry.specs.Placement.{outIn, missingAt}
 use Rattle.geometry.specs.Store.{imageWrong, workWrong, imageSize, workSize}
 use Rattle.geometry.specs.declared.Geometry.{Geometry}
@@ -33,7 +34,6 @@ use Rattle.history.specs.World.{World}
 use Rattle.history.proofs.Invariant.{Sure}
 use Rattle.history.proofs.Parities.{right-elim}
 use Rattle.history.proofs.Placed.{layout}
-use Rattle.history.proofs.Places.{missing-card}
 use Rattle.history.proofs.ReadOff.{opened-size, opened-rests}
 use Rattle.history.proofs.Tables.{sound-intro, free-sound}
 
@@ -91,7 +91,7 @@ module _ (g : Geometry) (out : ℕ) (table : List Record) (work image : List ℕ
       where
         go : (out < g .cards) ⊎ (out ≡ none) → parityByte (g .cards) (g .stripes) (g .block) image s b ≡ 0
         go (inl l) =
-            absurd (omega (arith, missing-card (g .cards) s out l, layout (g .cards) (omega (arith, bounds .cards-low)) .position-below s out))
+            absurd (omega (arith, missingAt-is (g .cards) s out l, layout (g .cards) (omega (arith, bounds .cards-low)) .position-below s out))
         go (inr e) =
             right-elim (g .cards) (g .stripes) (g .block) image nothingHeld (not-false _ (rw (eq-eqb out none e) at (tests .parity))) s b hs hb refl
 

@@ -10,6 +10,7 @@ use lib.Dec.{eqb, ltb}
 use Rattle.terms.proofs.Rows.{and-left, and-both, or-cases}
 use Rattle.geometry.proofs.Bounds.{Bounds}
 use Rattle.geometry.specs.Limits.{none, legal, legalOut, beyond, beyondState}
+use Rattle.geometry.proofs.Turns.{missingAt-none}
 use Rattle.geometry.specs.Placement.{outIn}
 use Rattle.geometry.specs.Report.{withOut}
 use Rattle.geometry.specs.declared.State.{State}
@@ -25,7 +26,6 @@ use Rattle.history.specs.Row.{writtenRow, unitIn}
 use Rattle.history.specs.World.{World}
 use Rattle.history.proofs.Facts.{bounds}
 use Rattle.history.proofs.Invariant.{Matches, Working, Sure}
-use Rattle.history.proofs.Places.{missing-none}
 use Rattle.history.proofs.Rows.{rowOf, afterRow}
 use Rattle.history.proofs.Tables.{Fit, Sound, fit, fit-sound, sound-elim, sound-intro}
 
@@ -43,7 +43,7 @@ module _ (w : World) (a : Account) (sure : Sure w a) (c : ℕ) (none-out : w .st
   none-missing : (s : ℕ) → unitsOf st < missingIn st s
   unfolding outIn
   none-missing s =
-      let e : missingIn st s ≡ st .cards = missing-none (st .cards) s (st .out) (omega (arith, none-out, limits .cards-high)) in
+      let e : missingIn st s ≡ st .cards = missingAt-none (st .cards) s (st .out) (omega (arith, none-out, limits .cards-high)) in
       omega (arith, limits .cards-low)
 
   within-now : beyondState out ≡ false

@@ -17,6 +17,7 @@ use Rattle.terms.proofs.Sets.{xorTo-cong}
 use Rattle.block.proofs.Sums.{others, sum-zero-term}
 use Rattle.geometry.proofs.Bounds.{Bounds}
 use Rattle.geometry.specs.Limits.{none}
+use Rattle.geometry.proofs.Turns.{missingAt-none}
 use Rattle.geometry.specs.Placement.{cardAt, positionOf, outIn, stripeOf, unitOf, cardOf, blockOf}
 use Rattle.geometry.specs.Placing.{Placing}
 use Rattle.geometry.specs.declared.State.{State}
@@ -35,7 +36,7 @@ use Rattle.history.proofs.Facts.{bounds}
 use Rattle.history.proofs.Invariant.{Sure, cellsOf}
 use Rattle.history.proofs.Parities.{right-intro}
 use Rattle.history.proofs.Placed.{layout}
-use Rattle.history.proofs.Places.{out-position, out-card, missing-none, block-back, unit-below, stripe-below}
+use Rattle.history.proofs.Places.{out-position, out-card, block-back, unit-below, stripe-below}
 use Rattle.history.proofs.Positions.{parity-sum}
 use Rattle.history.proofs.ReadOff.{block-byte, block-size, rest-byte, rest-size}
 use Rattle.history.proofs.Rows.{unitByte, rowOf, row-unit, row-parity}
@@ -121,7 +122,7 @@ module _ (w : World) (a : Account) (sure : Sure w a) where
         parity-sum N (st .stripes) (st .block) placing (w .image) s b
         ∙ xorTo-cong N (cellsOf st (w .image) s b) (rowOf st (a .row) s b)
         (λ p l. sure .resting s hs idle b hb .holds p (omega arith)
-        (λ e. omega (arith, missing-none N s (st .out) (omega (arith, limits .cards-high)))))
+        (λ e. omega (arith, missingAt-none N s (st .out) (omega (arith, limits .cards-high)))))
         ∙ row-none b hb
 
   -- ---- by block number
