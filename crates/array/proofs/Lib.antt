@@ -3,10 +3,12 @@
 pub mod Passed
 pub mod Granted
 pub mod Refused
--- What a step and an admission alter, block by block
+-- What a step, an admission and a collect alter, block by block
 pub mod Frames
 pub mod Steps
 pub mod Rank
+pub mod Puts
 pub mod Kept
+pub mod Handed
 -- Bytes stay bytes
 pub mod Bytes
