@@ -1,0 +1,13 @@
+//! The library, through its C calls, held to document 01 and to the plain engine.
+
+mod examples;
+mod pair;
+mod scene;
+mod versions;
+
+use harness::calls::Calls;
+
+/// The engine under test.
+fn tested() -> impl Calls {
+    harness::calls::Plain
+}
