@@ -1,6 +1,8 @@
 //! The library, through its C calls, held to document 01 and to the plain engine.
 
 mod examples;
+mod longest;
+mod orders;
 mod pair;
 mod scene;
 mod versions;
