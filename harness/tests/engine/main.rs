@@ -1,10 +1,13 @@
 //! The library, through its C calls, held to document 01 and to the plain engine.
 
 mod examples;
+mod history;
 mod longest;
 mod orders;
 mod pair;
 mod scene;
+mod story;
+mod tally;
 mod versions;
 
 use harness::calls::Calls;
