@@ -1,5 +1,6 @@
 //! The library, through its C calls, held to document 01 and to the plain engine.
 
+mod boundary;
 mod examples;
 mod history;
 mod longest;
