@@ -12,7 +12,7 @@ fn random_histories() {
     let half = |odd: u64| {
         let mut tally = Tally::default();
         for seed in (0..STORIES).filter(|seed| seed % 2 == odd) {
-            match tell(&tested(), seed) {
+            match tell(&tested(), seed, false) {
                 Ok(met) => tally.add(&met),
                 Err(what) => panic!("{what}"),
             }

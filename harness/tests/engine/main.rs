@@ -3,6 +3,7 @@
 mod boundary;
 mod examples;
 mod history;
+mod impostors;
 mod longest;
 mod orders;
 mod pair;
@@ -10,6 +11,7 @@ mod scene;
 mod story;
 mod tally;
 mod versions;
+mod wild;
 
 use harness::calls::Calls;
 

@@ -90,16 +90,28 @@ pub struct Pair<'a> {
     before: Side,
     /// The bytes on the card that is out may differ between the two sides.
     pub decays_apart: bool,
+    /// The tested engine is run alone and compared with nothing.
+    pub alone: bool,
 }
 
 impl<'a> Pair<'a> {
     pub fn new(tested: &'a dyn Calls, side: Side) -> Pair<'a> {
-        Pair { tested, theirs: side.clone(), ours: side, before: Side::default(), decays_apart: false }
+        Pair {
+            tested,
+            theirs: side.clone(),
+            ours: side,
+            before: Side::default(),
+            decays_apart: false,
+            alone: false,
+        }
     }
 
     /// Makes the call on both sides; says what differs, if anything does. A result buffer comes in
     /// filled by the caller and goes out as the tested engine left it.
     pub fn call(&mut self, call: &Call, result: &mut Vec<u8>) -> Result<Answer, String> {
+        if self.alone {
+            return Ok(call.make(self.tested, &mut self.theirs, result));
+        }
         self.before.clone_from(&self.theirs);
         let filled = result.clone();
         let mut our_result = filled.clone();

@@ -67,13 +67,16 @@ pub fn some_side(random: &mut Random, state: State) -> Side {
 
 impl<'a> Story<'a> {
     /// Opens an array of random numbers with random bytes.
-    pub fn begin(calls: &'a dyn Calls, seed: u64) -> Result<Story<'a>, String> {
+    pub fn begin(calls: &'a dyn Calls, seed: u64, alone: bool) -> Result<Story<'a>, String> {
         let mut random = Random::new(seed);
         let state = some_state(&mut random);
-        let side = some_side(&mut random, state);
+        let mut side = some_side(&mut random, state);
         let row = Row::of(&state, &side.image);
+        // What the caller's state holds before opening does not matter.
+        side.state = State { cards: random.next(), lost: random.next(), ..State::default() };
         let requests = (0..state.records).map(|_| None).collect();
-        let pair = Pair::new(calls, side);
+        let mut pair = Pair::new(calls, side);
+        pair.alone = alone;
         let mut story = Story { pair, random, row, requests, tally: Tally::default() };
         story.open_wrongly(state)?;
         let State { cards, stripes, block, records, out, .. } = state;
@@ -216,9 +219,12 @@ impl<'a> Story<'a> {
         (0..self.requests.len() as u64).filter(|&at| is_open(&self.requests[at as usize])).collect()
     }
 
-    /// The steps that an open record is ready for.
+    /// The steps that a record is ready for, if it is open.
     fn ready(&self, record: u64) -> Vec<u64> {
-        let (state, record) = (self.pair.ours.state, self.pair.ours.table[record as usize]);
+        let (state, record) = (self.state(), self.record(record));
+        if record.phase != 1 {
+            return Vec::new();
+        }
         let plan = record.plan(&state);
         (0..=2 * state.units() + 2).filter(|&step| plan.ready(record.done, step)).collect()
     }
@@ -239,7 +245,7 @@ impl<'a> Story<'a> {
 
     /// Takes a step and, if it is accepted, adds to the caller's knowledge.
     fn take(&mut self, record: u64, step: u64) -> Result<Answer, String> {
-        let graph = self.pair.ours.table.get(record as usize).map(|record| record.graph);
+        let graph = self.pair.theirs.table.get(record as usize).map(|record| record.graph);
         let answer = self.call(Call::Step { record, step })?;
         if answer.number != 0 {
             return Ok(answer);
@@ -438,10 +444,11 @@ impl<'a> Story<'a> {
     }
 }
 
-/// Tells a whole story; what it met, or what went wrong.
-pub fn tell(calls: &dyn Calls, seed: u64) -> Result<Tally, String> {
+/// Tells a whole story; what it met, or what went wrong. An engine that is alone is held to the
+/// caller's knowledge only.
+pub fn tell(calls: &dyn Calls, seed: u64, alone: bool) -> Result<Tally, String> {
     let run = || {
-        let mut story = Story::begin(calls, seed)?;
+        let mut story = Story::begin(calls, seed, alone)?;
         for _ in 0..story.random.between(20, 400) {
             story.turn()?;
         }
