@@ -4,9 +4,11 @@
 //! written over it, so that the same text runs the library (`Library`) and the plain engine
 //! (`Plain`).
 
+mod library;
 mod plain;
 
 pub use crate::plain::{Record, State};
+pub use library::Library;
 pub use plain::Plain;
 
 /// An engine behind the C interface. Slices stand for a pointer and a length.

@@ -17,5 +17,5 @@ use harness::calls::Calls;
 
 /// The engine under test.
 fn tested() -> impl Calls {
-    harness::calls::Plain
+    harness::calls::Library
 }
