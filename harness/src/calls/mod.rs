@@ -4,12 +4,18 @@
 //! written over it, so that the same text runs the library (`Library`) and the plain engine
 //! (`Plain`).
 
+#[cfg(feature = "library")]
 mod library;
 mod plain;
 
 pub use crate::plain::{Record, State};
-pub use library::Library;
 pub use plain::Plain;
+
+/// The engine under test.
+#[cfg(feature = "library")]
+pub use library::Library as Tested;
+#[cfg(not(feature = "library"))]
+pub use plain::Plain as Tested;
 
 /// An engine behind the C interface. Slices stand for a pointer and a length.
 #[allow(clippy::too_many_arguments)]

@@ -28,11 +28,13 @@ fn part(start: u64, length: u64) -> Range<usize> {
 /// A parity sum. It starts from 512 zero bytes, of which the first B are used.
 pub struct Sum([u8; 512]);
 
-impl Sum {
-    pub fn new() -> Sum {
+impl Default for Sum {
+    fn default() -> Sum {
         Sum([0; 512])
     }
+}
 
+impl Sum {
     pub fn add(&mut self, block: &[u8]) {
         for (sum, byte) in self.0.iter_mut().zip(block) {
             *sum ^= byte;
@@ -45,8 +47,13 @@ impl Sum {
 }
 
 /// The exclusive or of these positions of a stripe.
-pub fn stripe_sum(state: &State, image: &[u8], stripe: u64, positions: impl Iterator<Item = u64>) -> Sum {
-    let mut sum = Sum::new();
+pub fn stripe_sum(
+    state: &State,
+    image: &[u8],
+    stripe: u64,
+    positions: impl Iterator<Item = u64>,
+) -> Sum {
+    let mut sum = Sum::default();
     for position in positions {
         sum.add(&image[in_image(state, stripe, position)]);
     }

@@ -105,7 +105,8 @@ pub fn admit(
     demand(stripe < state.stripes, Refusal::Range)?;
     demand(mask_fits(state, mask), Refusal::Mask)?;
 
-    let mut request = Record { phase: OPEN, write: write as u64, stripe, mask, ..Record::default() };
+    let mut request =
+        Record { phase: OPEN, write: write as u64, stripe, mask, ..Record::default() };
     let expected = if write { request.ones() * state.block } else { 0 };
     demand(payload.len() as u64 == expected, Refusal::Buffer)?;
     demand(!held(table, stripe), Refusal::Held)?;
@@ -183,7 +184,7 @@ fn on_card(state: &State, stripe: u64, action: Action) -> Option<u64> {
 /// The exclusive or of all that was read and, for a write, of the new units. It is the missing unit
 /// of a degraded read, and the new parity of a write.
 fn add_up(state: &State, request: &Record, record: u64, reads: u64, work: &mut [u8]) {
-    let mut sum = Sum::new();
+    let mut sum = Sum::default();
     for position in members(reads) {
         sum.add(&work[was_read(state, record, position)]);
     }
@@ -233,7 +234,8 @@ pub fn collect(
     demand(!read || enough, Refusal::Buffer)?;
 
     if read {
-        for (unit, room) in members(request.mask).zip(result.chunks_exact_mut(state.block as usize)) {
+        for (unit, room) in members(request.mask).zip(result.chunks_exact_mut(state.block as usize))
+        {
             room.copy_from_slice(&work[was_read(state, record, unit)]);
         }
     }

@@ -47,7 +47,8 @@ impl Row {
     /// The stripe on the cards says what the row says: each unit on a working card, the unit on the
     /// card that is out by inference, and with no card out parity is right.
     pub fn agrees(&self, state: &State, image: &[u8], stripe: u64) -> bool {
-        let units = (0..self.units).all(|unit| unit_in(state, image, stripe, unit) == self.unit(stripe, unit));
+        let units = (0..self.units)
+            .all(|unit| unit_in(state, image, stripe, unit) == self.unit(stripe, unit));
         let sum = stripe_sum(state, image, stripe, 0..state.cards);
         units && (state.out != NONE || sum.bytes(state).iter().all(|&byte| byte == 0))
     }

@@ -31,7 +31,7 @@ impl State {
         (3..=8).contains(&self.cards)
             && (1..=1024).contains(&self.stripes)
             && (16..=512).contains(&self.block)
-            && self.block % 16 == 0
+            && self.block.is_multiple_of(16)
             && (1..=8).contains(&self.records)
             && (self.out < self.cards || self.out == NONE)
     }

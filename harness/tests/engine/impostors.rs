@@ -173,7 +173,8 @@ impl Calls for Impostor {
         let answer = Plain.collect(state, table, work, record, result);
         let Answer { number, first: count, .. } = Answer::of(answer);
         if number == 0 && self.bend == Bend::ClearsRest {
-            let units = request.filter(|request| request.write == 0).map_or(0, |request| request.ones());
+            let units =
+                request.filter(|request| request.write == 0).map_or(0, |request| request.ones());
             result[(units * state.block) as usize..].fill(0);
         }
         if number == 0 && self.bend == Bend::InventsCount {

@@ -33,8 +33,11 @@ fn the_longest_request_of_every_array() {
                             .filter(|unit| mask >> unit & 1 == 1)
                             .map(|unit| (unit, 0xC0 + unit as u8))
                             .collect();
-                        let record =
-                            if write { scene.write(stripe, &new) } else { scene.read(stripe, mask) };
+                        let record = if write {
+                            scene.write(stripe, &new)
+                        } else {
+                            scene.read(stripe, mask)
+                        };
                         let count = put_off(&mut scene, record, stripe, position);
                         assert!(count <= 2 * units + 3, "N = {cards}, mask {mask:b}: {count}");
                         longest = longest.max(count);

@@ -5,10 +5,12 @@ mod examples;
 mod history;
 mod impostors;
 mod longest;
+mod numbers;
 mod orders;
 mod pair;
 mod scene;
 mod story;
+mod tables;
 mod tally;
 mod versions;
 mod wild;
@@ -17,5 +19,5 @@ use harness::calls::Calls;
 
 /// The engine under test.
 fn tested() -> impl Calls {
-    harness::calls::Library
+    harness::calls::Tested
 }

@@ -75,7 +75,8 @@ fn every_way(calls: &dyn Calls, admitted: &Side, row: &Row, card: u64, ways: &mu
         for step in 0..=2 * units + 2 {
             let mut next = Pair::new(calls, here.clone());
             let answer = next.call(&Call::Step { record: 0, step }, &mut Vec::new()).unwrap();
-            if answer.number == 0 && next.theirs.table[0].phase == 1 && !seen.contains(&next.theirs) {
+            if answer.number == 0 && next.theirs.table[0].phase == 1 && !seen.contains(&next.theirs)
+            {
                 seen.push(next.theirs);
             }
         }

@@ -117,7 +117,8 @@ impl<'a> Pair<'a> {
         let mut our_result = filled.clone();
         let theirs = call.make(self.tested, &mut self.theirs, result);
         let ours = call.make(&Plain, &mut self.ours, &mut our_result);
-        let told = |what: &str| Err(format!("{what} after {call:?}: {theirs:?}, plain engine {ours:?}"));
+        let told =
+            |what: &str| Err(format!("{what} after {call:?}: {theirs:?}, plain engine {ours:?}"));
         if theirs != ours {
             return told("answers differ");
         }

@@ -8,7 +8,7 @@
 
 mod moves;
 
-use harness::calls::{Answer, Calls, Library, Plain, Record, State};
+use harness::calls::{Answer, Calls, Plain, Record, State, Tested};
 use harness::plain::blocks::{in_image, stripe_sum};
 use harness::plain::graph::{members, Plan};
 use harness::plain::shape::card_at;
@@ -126,15 +126,14 @@ impl Clock {
 }
 
 /// Times one task and prints its row.
-fn run<C: Calls>(library: &C, task: &Task) {
+fn run(task: &Task) {
     let mut bench = Bench::new(task);
     let requests = bench.stripes.len();
     let moves = moves::all(&bench, task);
-    let (mut tested, mut plain, mut bare) =
-        (Clock(f64::MAX), Clock(f64::MAX), Clock(f64::MAX));
+    let (mut tested, mut plain, mut bare) = (Clock(f64::MAX), Clock(f64::MAX), Clock(f64::MAX));
     // The three take turns, so that a busy moment of the machine hits none of them alone.
     for _ in 0..15 {
-        tested.time(requests, || bench.round(library, task.write));
+        tested.time(requests, || bench.round(&Tested, task.write));
         plain.time(requests, || bench.round(&Plain, task.write));
         bare.time(requests, || moves::carry_out(&mut bench, &moves));
     }
@@ -155,7 +154,7 @@ fn main() {
     println!("|---|---|---|---|---|---|---|");
     for (cards, block) in [(8, 512), (4, 64)] {
         for task in &tasks(cards, block) {
-            run(&Library, task);
+            run(task);
         }
     }
 }

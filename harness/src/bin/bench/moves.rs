@@ -61,7 +61,7 @@ pub fn carry_out(bench: &mut Bench, moves: &[Move]) {
             Move::Write(from, to) => copy(&work[from.clone()], &mut image[to.clone()]),
             Move::Result(from, to) => copy(&work[from.clone()], &mut result[to.clone()]),
             Move::Sum(from, to) => {
-                let mut sum = Sum::new();
+                let mut sum = Sum::default();
                 from.iter().for_each(|part| sum.add(&work[part.clone()]));
                 copy(sum.bytes(state), &mut work[to.clone()]);
             }
