@@ -8,7 +8,11 @@ fn main() {
     }
     let folder = Path::new(env!("CARGO_MANIFEST_DIR")).join("../target/staticlib");
     let archive = folder.join("librecorder.a");
-    assert!(archive.exists(), "{} is missing: run 'rt staticlib recorder' first", archive.display());
+    assert!(
+        archive.exists(),
+        "{} is missing: run 'rt staticlib recorder' first",
+        archive.display()
+    );
     println!("cargo:rerun-if-changed={}", archive.display());
     println!("cargo:rustc-link-search=native={}", folder.display());
     println!("cargo:rustc-link-lib=static=recorder");

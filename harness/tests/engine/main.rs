@@ -4,6 +4,7 @@ mod boundary;
 mod examples;
 mod history;
 mod impostors;
+mod largest;
 mod longest;
 mod numbers;
 mod orders;
