@@ -3,6 +3,7 @@
 #define PLAIN_H
 
 #include <coppicetune.h>
+#include <stddef.h>
 
 typedef struct coppicetune_state state_t;
 typedef struct coppicetune_record record_t;
