@@ -1,19 +1,13 @@
-//! Links the library's archive, which `rt staticlib recorder` writes.
-
-use std::path::Path;
+//! Links the static library of the recorder's C functions, which `rt staticlib recorder` writes.
+use std::path::PathBuf;
 
 fn main() {
-    if std::env::var_os("CARGO_FEATURE_LIBRARY").is_none() {
-        return;
+    let folder = PathBuf::from(std::env::var("CARGO_MANIFEST_DIR").unwrap()).join("../target/staticlib");
+    let library = folder.join("librecorder.a");
+    println!("cargo:rerun-if-changed={}", library.display());
+    if !library.exists() {
+        panic!("there is no {}: run `rt staticlib recorder` first", library.display());
     }
-    let folder = Path::new(env!("CARGO_MANIFEST_DIR")).join("../target/staticlib");
-    let archive = folder.join("librecorder.a");
-    assert!(
-        archive.exists(),
-        "{} is missing: run 'rt staticlib recorder' first",
-        archive.display()
-    );
-    println!("cargo:rerun-if-changed={}", archive.display());
     println!("cargo:rustc-link-search=native={}", folder.display());
     println!("cargo:rustc-link-lib=static=recorder");
 }

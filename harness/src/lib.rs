@@ -1,8 +1,8 @@
-//! Runs that hold the library to document 01.
-//!
-//! `plain` is a second reading of the paper, written without a look at the library; `calls` is the
-//! one way in which tests and benchmarks reach either engine.
-
+//! What the tests share: the independent implementation (`plain`), the library as C sees it (`recorder`), the one way in which tests
+//! reach either (`calls`), the proved programs (`program`), and numbers to try them on (`numbers`, `random`).
 pub mod calls;
+pub mod numbers;
 pub mod plain;
+pub mod program;
 pub mod random;
+pub mod recorder;

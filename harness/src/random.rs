@@ -22,6 +22,12 @@ impl Random {
         self.0.wrapping_mul(0x2545_F491_4F6C_DD1D)
     }
 
+    /// A number of any size: the high bits are cut off at a random width.
+    pub fn any(&mut self) -> u64 {
+        let width = self.below(64);
+        self.number() >> width
+    }
+
     /// A number below `end`, which is not 0.
     pub fn below(&mut self, end: u64) -> u64 {
         (self.number() >> 11) % end

@@ -4,6 +4,6 @@ pub mod Refusals
 pub mod Opening
 pub mod Admission
 pub mod Stepping
-pub mod Report
 pub mod Collection
 pub mod Scan
+pub mod Answers

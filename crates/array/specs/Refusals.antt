@@ -85,16 +85,6 @@ collectRefusal st table work i result =
     ∷ row (resultShort st (getD table i free) result) 7
     ∷ [])
 
--- report: 1, 4, 5, 12; it is lent the state alone
-unfoldable pub reportRefusal : State → ℕ → ℕ
-reportRefusal st c =
-    firstRow
-    (row (beyondState st) 1
-    ∷ row (isLost st) 4
-    ∷ row (leb (st .cards) c) 5
-    ∷ row (eqb c (st .out)) 12
-    ∷ [])
-
 -- scan: 1 to 4, 12, 13; it isn't lent the work store, and passes over the stripes that an open request holds
 unfoldable pub scanRefusal : State → List Record → List ℕ → ℕ
 scanRefusal st table image =

@@ -1,5 +1,8 @@
 -- The array's limits, placement, and where blocks stand.
 pub mod Limits
 pub mod Placement
+pub mod Placing
 pub mod Answers
 pub mod Store
+pub mod Asked
+pub mod Report

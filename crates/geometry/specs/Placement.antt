@@ -2,10 +2,8 @@
 -- parity, n = N-1.
 -- Assumes nothing.
 use Prim.Native.Nat.{ℕ, _+_, _-_, _*_, _/_, _%_}
-use mathlib.Core.Bool.{Bool, cond}
-use lib.Dec.{ltb, eqb}
-use Rattle.terms.specs.Reply.{Reply, accepted, refused}
-use Rattle.geometry.specs.Limits.{none}
+use mathlib.Core.Bool.{cond}
+use lib.Dec.{ltb}
 use Rattle.geometry.specs.declared.State.{State}
 
 -- stripe s has its parity on card p = N-1-(s mod N)
@@ -42,3 +40,7 @@ outIn st s = st .out
 -- the position of a card in stripe s where it is below N, and N, which is no position, where it is not
 unfoldable pub missingAt : ℕ → ℕ → ℕ → ℕ
 missingAt N s c = cond (ltb c N) (positionOf N s c) N
+
+-- the other way round: the card of a position of stripe s where it is one, 0 to n, and N, which is no card, where it is not
+unfoldable pub cardIn : ℕ → ℕ → ℕ → ℕ
+cardIn N s j = cond (ltb j N) (cardAt N s j) N

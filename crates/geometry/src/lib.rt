@@ -1,5 +1,15 @@
-// The array's shape: its numbers by value, their limits, and placement both ways.
+// The array's shape: its numbers by value, their limits, placement both ways, and where blocks stand.
 // Assumes nothing.
+pub use limits::NONE;
+pub use limits::legal;
+pub use placement::card_at;
+pub use placement::missing_at;
+
+mod limits;
+mod parts;
+mod placement;
+pub mod report;
+mod store;
 
 // The numbers an array is opened with: cards (N), stripes (S), bytes in a block (B), request records (K).
 #[repr(C)]
@@ -19,4 +29,23 @@ pub struct State {
     pub records: u64,
     pub out: u64,
     pub lost: u64,
+}
+
+// Where a block is: its card and its stripe, or what was refused.
+pub enum Placed {
+    At { card: u64, stripe: u64 },
+    // Refusal 1: the cards or the stripes are beyond their limits.
+    Beyond,
+    // Refusal 5: there is no such block.
+    OutOfRange,
+}
+
+// What a card holds in a stripe: a block's number or parity, or what was refused.
+pub enum Held {
+    Block(u64),
+    Parity,
+    // Refusal 1: the cards or the stripes are beyond their limits.
+    Beyond,
+    // Refusal 5: there is no such card or stripe.
+    OutOfRange,
 }

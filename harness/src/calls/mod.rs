@@ -1,20 +1,18 @@
 //! The calls as a C program makes them: numbers in, buffers lent, one packed number back.
 //!
 //! `Calls` has one method for each function of include/coppicetune.h. Tests and benchmarks are
-//! written over it, so that the same text runs the library (`Library`) and the plain engine
-//! (`Plain`).
+//! written over it, so that the same text runs the library (`recorder::Library`) and the plain
+//! engine (`Plain`).
 
-#[cfg(feature = "library")]
-mod library;
 mod plain;
 
 pub use crate::plain::{Record, State};
 pub use plain::Plain;
 
 /// The engine under test.
-#[cfg(feature = "library")]
-pub use library::Library as Tested;
-#[cfg(not(feature = "library"))]
+#[cfg(feature = "engine")]
+pub use crate::recorder::Library as Tested;
+#[cfg(not(feature = "engine"))]
 pub use plain::Plain as Tested;
 
 /// An engine behind the C interface. Slices stand for a pointer and a length.
@@ -76,6 +74,14 @@ pub struct Answer {
 }
 
 impl Answer {
+    pub fn accepted(first: u64, second: u64) -> Answer {
+        Answer { number: 0, first, second }
+    }
+
+    pub fn refused(number: u64) -> Answer {
+        Answer { number, first: 0, second: 0 }
+    }
+
     /// The three parts of a packed answer: 16 bits, 16 bits and 32 bits, lowest first.
     pub fn of(packed: u64) -> Answer {
         Answer { number: packed & 0xFFFF, first: packed >> 16 & 0xFFFF, second: packed >> 32 }
@@ -85,9 +91,4 @@ impl Answer {
 /// Packs an answer: the number, the first value times 2^16, the second times 2^32.
 pub fn pack(number: u64, first: u64, second: u64) -> u64 {
     number + (first << 16) + (second << 32)
-}
-
-/// An accepted answer with one value.
-pub fn accepted(value: u64) -> u64 {
-    pack(0, value, 0)
 }

@@ -1,8 +1,9 @@
 //! Blocks: where they stand in the image and in the work store, and their sums.
 
+use super::placement::card_at;
 use super::record::{held, Record};
 use super::refusal::Refusal;
-use super::shape::{card_at, State};
+use super::state::State;
 use std::ops::Range;
 
 /// The place of a stripe's position in the image: card 0's blocks by stripe, then card 1's, and so on.

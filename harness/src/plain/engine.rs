@@ -3,23 +3,10 @@
 
 use super::blocks::{in_image, parity_is_right, to_write, was_read, Sum};
 use super::graph::{members, Action, DEGRADED_READ};
+use super::placement::{card_at, position_on};
 use super::record::{held, mask_fits, sound, Record, FINISHED, FREE, OPEN};
 use super::refusal::{demand, Refusal};
-use super::shape::{card_at, position_on, State, NONE};
-
-/// Where a logical block is.
-#[derive(Clone, Copy, PartialEq, Eq, Debug)]
-pub struct Place {
-    pub card: u64,
-    pub stripe: u64,
-}
-
-/// What a card holds in a stripe.
-#[derive(Clone, Copy, PartialEq, Eq, Debug)]
-pub enum Role {
-    Block(u64),
-    Parity,
-}
+use super::state::{State, NONE};
 
 /// What an accepted step did.
 #[derive(Clone, Copy, PartialEq, Eq, Debug)]
@@ -28,34 +15,6 @@ pub enum Progress {
     Done,
     /// Its card is out, and this graph was chosen afresh.
     Afresh(u64),
-}
-
-/// Placement: B is taken as 16, K as 1, and no card is out.
-fn placed(cards: u64, stripes: u64) -> Result<State, Refusal> {
-    let state = State { cards, stripes, block: 16, records: 1, out: NONE, lost: 0 };
-    demand(state.within_limits(), Refusal::Limits)?;
-    Ok(state)
-}
-
-/// The card and stripe of a logical block.
-pub fn place(cards: u64, stripes: u64, block: u64) -> Result<Place, Refusal> {
-    let state = placed(cards, stripes)?;
-    demand(block < state.units() * stripes, Refusal::Range)?;
-    let stripe = block / state.units();
-    let unit = block % state.units();
-    Ok(Place { card: card_at(cards, stripe, unit), stripe })
-}
-
-/// The logical block on a card in a stripe, or parity.
-pub fn block_at(cards: u64, stripes: u64, card: u64, stripe: u64) -> Result<Role, Refusal> {
-    let state = placed(cards, stripes)?;
-    demand(card < cards && stripe < stripes, Refusal::Range)?;
-    let position = position_on(cards, stripe, card);
-    if position == state.units() {
-        Ok(Role::Parity)
-    } else {
-        Ok(Role::Block(stripe * state.units() + position))
-    }
 }
 
 /// Opens an array: the state that it starts in. Every record is freed.
@@ -147,7 +106,7 @@ pub fn step(
 
     request.count += 1;
     let action = plan.action(step);
-    if on_card(state, request.stripe, action).is_some_and(|card| card == state.out) {
+    if on_card(state, request.stripe, action) == Some(state.out) {
         request.graph = request.graph_with(state, state.out);
         request.chosen = state.out;
         request.done = 0;

@@ -47,7 +47,7 @@ pub fn choose(units: u64, write: bool, mask: u64, missing: Option<u64>) -> u64 {
     let ones = mask.count_ones() as u64;
     let parity_out = missing == Some(units);
     let unit_out = missing.filter(|&position| position < units);
-    let in_mask = unit_out.is_some_and(|x| has(mask, x));
+    let in_mask = unit_out.map_or(false, |x| has(mask, x));
     match (write, in_mask) {
         (false, true) => DEGRADED_READ,
         (false, false) => PLAIN_READ,

@@ -1,27 +1,31 @@
-//! A plain engine: document 01 read once more and written down in ordinary Rust.
+//! An independent implementation: document 01 read once more and written down in ordinary Rust, as plain as that text.
 //!
 //! It shares nothing with the library. Tests run both on the same input and compare every answer
 //! and every byte; the benchmark takes this one as its measure.
 //!
-//! - `shape`: the numbers of an array, their limits, and placement both ways
+//! - `refusal`: the refusal numbers
+//! - `placement`: where blocks are, both ways
+//! - `layout`: what the layout program writes
+//! - `state`: the numbers of an array, and their limits
 //! - `graph`: choosing a graph, its steps and what must come before each
 //! - `record`: request records, and when a table of them is sound
 //! - `blocks`: where blocks stand in the image and in the work store; copies and parity sums
-//! - `refusal`: the refusal numbers
 //! - `engine`: the calls
 //! - `row`: the array as its user sees it, a row of blocks
 
 pub mod blocks;
 pub mod engine;
 pub mod graph;
+pub mod layout;
+pub mod placement;
 pub mod record;
 pub mod refusal;
 pub mod row;
-pub mod shape;
+pub mod state;
 
-pub use engine::{admit, block_at, check, collect, idle_scan, open, place, report, step};
-pub use engine::{Place, Progress, Role};
+pub use engine::{admit, check, collect, idle_scan, open, report, step, Progress};
+pub use placement::{block_at, place, Place, Role};
 pub use record::Record;
 pub use refusal::Refusal;
 pub use row::Row;
-pub use shape::{State, NONE};
+pub use state::{State, NONE};

@@ -1,7 +1,7 @@
 //! Request records and tables of them.
 
 use super::graph::{choose, Plan};
-use super::shape::{State, NONE};
+use super::state::{State, NONE};
 
 pub const FREE: u64 = 0;
 pub const OPEN: u64 = 1;

@@ -2,7 +2,8 @@
 
 use super::blocks::{in_image, stripe_sum};
 use super::graph::members;
-use super::shape::{position_on, State, NONE};
+use super::placement::position_on;
+use super::state::{State, NONE};
 
 /// The row. Block L is unit L mod n of stripe L div n.
 #[derive(Clone, PartialEq, Eq, Debug)]

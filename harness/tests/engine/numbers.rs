@@ -4,23 +4,16 @@ use crate::pair::{Call, Pair, Side};
 use crate::story::some_side;
 use crate::tested;
 use harness::calls::{Plain, Record, State};
+use harness::numbers::wild;
 use harness::random::Random;
 
-/// Around every limit of the paper, and where narrower numbers end.
-#[rustfmt::skip]
-const WILD: [u64; 32] = [
-    0, 1, 2, 3, 4, 5, 6, 7, 8, 9, 10, 15, 16, 17, 24, 127, 128, 254, 255, 256, 257, 511, 512, 513,
-    528, 1023, 1024, 1025, 1 << 16, 1 << 32, 1 << 63, u64::MAX,
-];
-
-/// A wild number, or one next to it.
+/// A wild number.
 pub fn wild_number(random: &mut Random) -> u64 {
-    let number = random.pick(&WILD);
-    match random.below(8) {
-        0 => number.wrapping_add(1),
-        1 => number.wrapping_sub(1),
-        2 => random.number() >> random.below(64),
-        _ => number,
+    let number = random.pick(&wild());
+    if random.chance(1, 8) {
+        random.any()
+    } else {
+        number
     }
 }
 
@@ -66,7 +59,7 @@ pub fn number_of(state: &mut State, at: u64) -> &mut u64 {
     }
 }
 
-/// Every wild number, and its neighbours, in every number of every call and of the state.
+/// Every wild number in every number of every call and of the state.
 #[test]
 fn every_number_wild() {
     let calls = tested();
@@ -79,15 +72,13 @@ fn every_number_wild() {
     assert_eq!(pair.call(&open, &mut Vec::new()).unwrap().number, 0);
     let base = pair.theirs;
 
-    let near: Vec<u64> =
-        WILD.iter().flat_map(|&w| [w.wrapping_sub(1), w, w.wrapping_add(1)]).collect();
     let try_all = |side: &Side, call: Call| {
         let mut result = vec![0xEE; 70];
         if let Err(what) = Pair::new(&calls, side.clone()).call(&call, &mut result) {
             panic!("{what}");
         }
     };
-    for &w in &near {
+    for w in wild() {
         let all = [
             Call::Place { cards: w, stripes, block: 1 },
             Call::Place { cards, stripes: w, block: 1 },

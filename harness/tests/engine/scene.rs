@@ -3,8 +3,8 @@
 use crate::pair::{Call, Pair, Side};
 use harness::calls::{Answer, Calls, Record, State};
 use harness::plain::blocks::in_image;
+use harness::plain::placement::card_at;
 use harness::plain::row::unit_in;
-use harness::plain::shape::card_at;
 
 pub struct Scene<'a> {
     pub pair: Pair<'a>,

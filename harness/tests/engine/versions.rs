@@ -5,7 +5,7 @@
 
 use crate::scene::Scene;
 use crate::tested;
-use harness::plain::shape::card_at;
+use harness::plain::placement::card_at;
 
 #[test]
 fn two_writes_never_share_a_stripe() {

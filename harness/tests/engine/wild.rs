@@ -27,7 +27,7 @@ fn alter_table(random: &mut Random, state: &State, table: &mut [Record]) {
         6 => table[at] = Record::default(),
         7 => {
             for number in 0..8 {
-                *field(&mut table[at], number) = random.number() >> random.below(64);
+                *field(&mut table[at], number) = random.any();
             }
         }
         8 | 9 => {

@@ -145,7 +145,7 @@ impl<'a> Story<'a> {
     /// The records of requests that are not finished, by the caller's knowledge.
     fn open_records(&self) -> Vec<u64> {
         let is_open = |request: &Option<Request>| {
-            request.as_ref().is_some_and(|request| request.outcome.is_none())
+            request.as_ref().map_or(false, |request| request.outcome.is_none())
         };
         (0..self.requests.len() as u64).filter(|&at| is_open(&self.requests[at as usize])).collect()
     }

@@ -77,8 +77,9 @@ impl Story<'_> {
             self.expect(now.graph == answer.first, "the answer names the new graph")?;
         }
         let longest = 2 * self.state().units() + 3;
-        let Some(request) = &mut self.requests[record as usize] else {
-            return Err("a step was accepted of a record that nobody took".to_string());
+        let request = match &mut self.requests[record as usize] {
+            Some(request) => request,
+            None => return Err("a step was accepted of a record that nobody took".to_string()),
         };
         request.steps += 1;
         let within = request.steps <= longest;
@@ -107,7 +108,9 @@ impl Story<'_> {
     pub(super) fn collect(&mut self) -> Result<(), String> {
         let finished: Vec<u64> = (0..self.requests.len() as u64)
             .filter(|&at| {
-                self.requests[at as usize].as_ref().is_some_and(|request| request.outcome.is_some())
+                self.requests[at as usize]
+                    .as_ref()
+                    .map_or(false, |request| request.outcome.is_some())
             })
             .collect();
         if finished.is_empty() {

@@ -1,8 +1,6 @@
-//! The numbers of an array, their limits, and placement.
-//!
-//! A *position* of a stripe is one of its N blocks: position i below n is unit i, and position n is
-//! parity. Counting on from the parity card, position i is on card (p + 1 + i) mod N, and with
-//! i = n that is the parity card itself; so one rule places units and parity alike.
+//! The numbers of an array, and their limits.
+
+use super::placement::position_on;
 
 /// The card out when none is.
 pub const NONE: u64 = 255;
@@ -31,7 +29,7 @@ impl State {
         (3..=8).contains(&self.cards)
             && (1..=1024).contains(&self.stripes)
             && (16..=512).contains(&self.block)
-            && self.block.is_multiple_of(16)
+            && self.block % 16 == 0
             && (1..=8).contains(&self.records)
             && (self.out < self.cards || self.out == NONE)
     }
@@ -55,39 +53,6 @@ impl State {
             None
         } else {
             Some(position_on(self.cards, stripe, card))
-        }
-    }
-}
-
-/// The card that holds a stripe's parity.
-pub fn parity_card(cards: u64, stripe: u64) -> u64 {
-    cards - 1 - stripe % cards
-}
-
-/// The card that holds a position of a stripe.
-pub fn card_at(cards: u64, stripe: u64, position: u64) -> u64 {
-    (parity_card(cards, stripe) + 1 + position) % cards
-}
-
-/// The position of a stripe that a card holds: the other way.
-pub fn position_on(cards: u64, stripe: u64, card: u64) -> u64 {
-    (card + cards - (parity_card(cards, stripe) + 1)) % cards
-}
-
-#[cfg(test)]
-mod tests {
-    use super::*;
-
-    #[test]
-    fn both_ways_agree() {
-        for cards in 3..=8 {
-            for stripe in 0..50 {
-                assert_eq!(card_at(cards, stripe, cards - 1), parity_card(cards, stripe));
-                for position in 0..cards {
-                    let card = card_at(cards, stripe, position);
-                    assert_eq!(position_on(cards, stripe, card), position);
-                }
-            }
         }
     }
 }

@@ -1,11 +1,25 @@
-//! The library, through the functions of include/coppicetune.h. This is the one file that knows
-//! their arguments.
-
-use super::{Calls, Record, State};
+//! The library, through the functions of include/coppicetune.h; this is the one file that knows their arguments.
+use crate::calls::Answer;
+#[cfg(feature = "engine")]
+use crate::calls::{Calls, Record, State};
 
 extern "C" {
     fn coppicetune_place(cards: u64, stripes: u64, block: u64) -> u64;
     fn coppicetune_block_at(cards: u64, stripes: u64, card: u64, stripe: u64) -> u64;
+}
+
+pub fn place(cards: u64, stripes: u64, block: u64) -> Answer {
+    // Safe: the function takes any numbers and touches no memory of the caller's.
+    Answer::of(unsafe { coppicetune_place(cards, stripes, block) })
+}
+
+pub fn block_at(cards: u64, stripes: u64, card: u64, stripe: u64) -> Answer {
+    // Safe: as above.
+    Answer::of(unsafe { coppicetune_block_at(cards, stripes, card, stripe) })
+}
+
+#[cfg(feature = "engine")]
+extern "C" {
     fn coppicetune_scan(
         cards: u64,
         stripes: u64,
@@ -75,9 +89,12 @@ extern "C" {
     ) -> u64;
 }
 
+/// All calls of the library.
+#[cfg(feature = "engine")]
 pub struct Library;
 
 // Each call below lends whole slices for its own time only, and the structs have C's layout.
+#[cfg(feature = "engine")]
 impl Calls for Library {
     fn place(&self, cards: u64, stripes: u64, block: u64) -> u64 {
         unsafe { coppicetune_place(cards, stripes, block) }

@@ -2,11 +2,23 @@
 -- Assumes nothing.
 use Prim.Native.Nat.{ℕ}
 use mathlib.Core.Bool.{Bool, cond}
-use lib.Dec.{eqb}
-use Rattle.terms.specs.Reply.{Reply, accepted, refused, onAccept}
-use Rattle.geometry.specs.Limits.{none}
+use mathlib.Core.List.{[], _∷_}
+use lib.Dec.{leb, eqb}
+use Rattle.terms.specs.Reply.{Reply, accepted, refused, row, firstRow, onAccept}
+use Rattle.geometry.specs.Limits.{none, beyondState, isLost}
+use Rattle.geometry.specs.declared.report.Reported.{Reported}
+use Rattle.geometry.specs.declared.report.Reported.the-variants.{Marked, Refused}
 use Rattle.geometry.specs.declared.State.{State}
-use Rattle.array.specs.Refusals.{reportRefusal}
+
+-- report: 1, 4, 5, 12; it is lent the state alone
+unfoldable pub reportRefusal : State → ℕ → ℕ
+reportRefusal st c =
+    firstRow
+    (row (beyondState st) 1
+    ∷ row (isLost st) 4
+    ∷ row (leb (st .cards) c) 5
+    ∷ row (eqb c (st .out)) 12
+    ∷ [])
 
 -- the state with card c out
 abbrev pub withOut : State → ℕ → State
@@ -36,6 +48,7 @@ withLost st =
 unfoldable pub marked : State → ℕ → State
 marked st c = cond (eqb (st .out) none) (withOut st c) (withLost st)
 
+-- what report answers, and the state that it leaves
 pub record Reporting : Type 0 where
   pub reply : Reply
   pub state : State
@@ -44,3 +57,8 @@ unfoldable pub reporting : State → ℕ → Reporting
 reporting st c =
     let number = reportRefusal st c in
     record { reply = onAccept number (accepted 0 0) (refused number); state = onAccept number (marked st c) st }
+
+-- the reply of each answer
+abbrev pub reportedReply : Reported → Reply
+reportedReply Marked = accepted 0 0
+reportedReply (Refused k) = refused k

@@ -1,0 +1,56 @@
+-- Placement without a sum that could wrap: which card and which position, by whether the stripe's turn passes the last card.
+-- Assumes nothing.
+use Prim.Native.Nat.{ℕ, zero-le, _+_, _-_, _%_, _≤_, _<_}
+use mathlib.Core.Path.{_≡_, ap, _∙_}
+use native.Mathlib.Nat.{lt-of-le-of-lt, mod-lt, mod-eq-of-lt, add-mod-left}
+use native.Mathlib.Omega.{arith}
+use borrow.Author.Tests.{lt-ltb, le-ltb}
+use Rattle.geometry.specs.Placement.{parityCard, cardAt, cardIn, positionOf, missingAt}
+
+module _ (N s i : ℕ) where
+  -- the total forms: at a position or a card, and where there is none
+  pub cardIn-is : i < N → cardIn N s i ≡ cardAt N s i
+  unfolding cardIn
+  cardIn-is h = simp (lt-ltb i N h)
+
+  pub cardIn-none : N ≤ i → cardIn N s i ≡ N
+  unfolding cardIn
+  cardIn-none h = simp (le-ltb i N h)
+
+  pub missingAt-is : i < N → missingAt N s i ≡ positionOf N s i
+  unfolding missingAt
+  missingAt-is h = simp (lt-ltb i N h)
+
+  pub missingAt-none : N ≤ i → missingAt N s i ≡ N
+  unfolding missingAt
+  missingAt-none h = simp (le-ltb i N h)
+
+  pub turn-below : i < N → s % N < N
+  turn-below h = mod-lt s (lt-of-le-of-lt zero-le h)
+
+  -- the card of position i
+  pub card-before : i < N → i < s % N → cardAt N s i ≡ N - s % N + i
+  unfolding cardAt parityCard
+  card-before h t =
+      let r = turn-below h in
+      let e : parityCard N s + 1 + i ≡ N - s % N + i = omega arith in
+      ap (λ (k : ℕ). k % N) e ∙ mod-eq-of-lt (omega arith)
+
+  pub card-from : i < N → s % N ≤ i → cardAt N s i ≡ i - s % N
+  unfolding cardAt parityCard
+  card-from h t =
+      let r = turn-below h in
+      let e : parityCard N s + 1 + i ≡ N + (i - s % N) = omega arith in
+      ap (λ (k : ℕ). k % N) e ∙ add-mod-left N (i - s % N) ∙ mod-eq-of-lt (omega arith)
+
+  -- the position of card i
+  pub position-before : i < N → i < N - s % N → positionOf N s i ≡ i + s % N
+  unfolding positionOf
+  position-before h t = mod-eq-of-lt (omega arith)
+
+  pub position-from : i < N → N - s % N ≤ i → positionOf N s i ≡ i - (N - s % N)
+  unfolding positionOf
+  position-from h t =
+      let r = turn-below h in
+      let e : i + s % N ≡ N + (i - (N - s % N)) = omega arith in
+      ap (λ (k : ℕ). k % N) e ∙ add-mod-left N (i - (N - s % N)) ∙ mod-eq-of-lt (omega arith)

@@ -1,0 +1,82 @@
+// The limits of an array's numbers: refusal 1, and refusal 4 of a lost array.
+// Assumes nothing.
+ghost use mathlib.Core.Path.{_≡_};
+ghost use Rattle.terms.specs.Sets.{within};
+ghost use Rattle.geometry.specs.Limits.{legal, beyond, geometryOf, beyondState, isLost};
+use crate::Geometry;
+use crate::State;
+
+// The number that says that no card is out.
+pub const NONE: u64 = 255;
+
+// Whether x is from lo to hi.
+fn within(lo: u64, hi: u64, x: u64) -> bool
+    ensures { λ r. ⌜ r ≡ within lo hi x ⌝ }
+{
+    if x < lo {
+        return false;
+    }
+    x <= hi
+}
+
+// Whether N, S, B and K are within their limits.
+pub fn legal(cards: u64, stripes: u64, block: u64, records: u64) -> bool
+    ensures { λ r. ⌜ r ≡ legal cards stripes block records ⌝ }
+{
+    if !within(3, 8, cards) {
+        return false;
+    }
+    if !within(1, 1024, stripes) {
+        return false;
+    }
+    if !within(16, 512, block) {
+        return false;
+    }
+    if block % 16 != 0 {
+        return false;
+    }
+    within(1, 8, records)
+}
+
+impl Geometry {
+    // Refusal 1, with the card that is out: whether N, S, B, K or that card is beyond its limits.
+    pub fn beyond(self, out: u64) -> bool
+        ensures { λ r. ⌜ r ≡ beyond self out ⌝ }
+    {
+        if !legal(self.cards, self.stripes, self.block, self.records) {
+            return true;
+        }
+        if out < self.cards {
+            return false;
+        }
+        out != NONE
+    }
+}
+
+impl State {
+    // The geometry that the array was opened with.
+    pub fn geometry(self) -> Geometry
+        ensures { λ r. ⌜ r ≡ geometryOf self ⌝ }
+    {
+        Geometry {
+            cards: self.cards,
+            stripes: self.stripes,
+            block: self.block,
+            records: self.records,
+        }
+    }
+
+    // Refusal 1: whether a number of the state is beyond its limits.
+    pub fn beyond(self) -> bool
+        ensures { λ r. ⌜ r ≡ beyondState self ⌝ }
+    {
+        self.geometry().beyond(self.out)
+    }
+
+    // Refusal 4: whether the array is lost.
+    pub fn is_lost(self) -> bool
+        ensures { λ r. ⌜ r ≡ isLost self ⌝ }
+    {
+        self.lost != 0
+    }
+}

@@ -1,0 +1,119 @@
+// Placement: the left-symmetric layout, both ways, and the one answer to which card is missing in a stripe.
+// Assumes nothing.
+ghost use mathlib.Core.Path.{_≡_};
+ghost use Rattle.geometry.specs.Placement.{cardIn, missingAt, outIn};
+ghost use Rattle.geometry.specs.Answers.{placesOf, beyondPlaces, placedReply, placeReply, heldReply, blockAtReply};
+use crate::Geometry;
+use crate::Held;
+use crate::NONE;
+use crate::Placed;
+use crate::State;
+
+// The card of a position of a stripe, position n being parity; N where there is no such position.
+pub fn card_at(cards: u64, stripe: u64, position: u64) -> u64
+    ensures { λ r. ⌜ r ≡ cardIn cards stripe position ⌝ }
+{
+    if cards <= position {
+        return cards;
+    }
+    let turn = stripe % cards;
+    if position < turn {
+        return cards - turn + position;
+    }
+    position - turn
+}
+
+// The position of a card in a stripe; N where there is no such card.
+pub fn missing_at(cards: u64, stripe: u64, card: u64) -> u64
+    ensures { λ r. ⌜ r ≡ missingAt cards stripe card ⌝ }
+{
+    if cards <= card {
+        return cards;
+    }
+    let turn = stripe % cards;
+    let rest = cards - turn;
+    if card < rest {
+        return card + turn;
+    }
+    card - rest
+}
+
+impl State {
+    // The card that is missing in a stripe, or 255.
+    pub fn out_in(self, stripe: u64) -> u64
+        ensures { λ r. ⌜ r ≡ outIn self stripe ⌝ }
+    {
+        self.out
+    }
+
+    // The position that is missing in a stripe; N where none is.
+    pub fn missing_in(self, stripe: u64) -> u64
+        ensures { λ r. ⌜ r ≡ missingAt (self .cards) stripe (outIn self stripe) ⌝ }
+    {
+        missing_at(self.cards, stripe, self.out_in(stripe))
+    }
+}
+
+impl Geometry {
+    // A geometry of so many cards and stripes, for placement: B is taken as 16, K as 1.
+    pub fn places(cards: u64, stripes: u64) -> Geometry
+        ensures { λ r. ⌜ r ≡ placesOf cards stripes ⌝ }
+    {
+        Geometry {
+            cards,
+            stripes,
+            block: 16,
+            records: 1,
+        }
+    }
+
+    // Refusal 1 of placement: whether the cards or the stripes are beyond their limits.
+    pub fn beyond_places(self) -> bool
+        ensures { λ r. ⌜ r ≡ beyondPlaces (self .cards) (self .stripes) ⌝ }
+    {
+        Geometry::places(self.cards, self.stripes).beyond(NONE)
+    }
+
+    // The card and the stripe of a logical block.
+    pub fn place(self, block: u64) -> Placed
+        ensures { λ r. ⌜ placedReply r ≡ placeReply (self .cards) (self .stripes) block ⌝ }
+    {
+        if self.beyond_places() {
+            return Placed::Beyond;
+        }
+        let cards = self.cards;
+        let stripes = self.stripes;
+        let units = cards - 1;
+        if units * stripes <= block {
+            return Placed::OutOfRange;
+        }
+        let stripe = block / units;
+        let card = card_at(cards, stripe, block % units);
+        Placed::At { card, stripe }
+    }
+
+    // What a card holds in a stripe: a logical block's number, or parity.
+    pub fn block_at(self, card: u64, stripe: u64) -> Held
+        ensures { λ r. ⌜ heldReply r ≡ blockAtReply (self .cards) (self .stripes) card stripe ⌝ }
+    {
+        if self.beyond_places() {
+            return Held::Beyond;
+        }
+        let cards = self.cards;
+        let stripes = self.stripes;
+        if cards <= card {
+            return Held::OutOfRange;
+        }
+        if stripes <= stripe {
+            return Held::OutOfRange;
+        }
+        let units = cards - 1;
+        let position = missing_at(cards, stripe, card);
+        if position == units {
+            return Held::Parity;
+        }
+        let first = units * stripe;
+        let number = first + position;
+        Held::Block(number)
+    }
+}

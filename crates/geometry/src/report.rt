@@ -1,0 +1,68 @@
+// The report of a failure, on a state by value.
+// Assumes nothing.
+ghost use mathlib.Core.Path.{_≡_};
+ghost use Rattle.geometry.specs.Report.{reportRefusal, marked, reporting, reportedReply};
+use crate::State;
+use crate::limits::NONE;
+
+// What a report answers: the card is marked out, or the array lost; or the number of the refusal.
+pub enum Reported {
+    Marked,
+    Refused(u64),
+}
+
+// The answer, and the state after the report.
+pub struct Report {
+    pub answer: Reported,
+    pub state: State,
+}
+
+impl State {
+    // The number by which a report of a card is refused; 0: none.
+    fn report_refusal(self, card: u64) -> u64
+        ensures { λ r. ⌜ r ≡ reportRefusal self card ⌝ }
+    {
+        if self.beyond() {
+            return 1;
+        }
+        if self.is_lost() {
+            return 4;
+        }
+        if self.cards <= card {
+            return 5;
+        }
+        if card == self.out {
+            return 12;
+        }
+        0
+    }
+
+    // The state with the card out, or with the array lost where another one is out already.
+    fn marked(mut self, card: u64) -> State
+        ensures { λ r. ⌜ r ≡ marked self card ⌝ }
+    {
+        if self.out == NONE {
+            self.out = card;
+            return self;
+        }
+        self.lost = 1;
+        self
+    }
+
+    // Marks a card out, or the array lost.
+    pub fn report(self, card: u64) -> Report
+        ensures { λ r. ⌜ (reportedReply (r .answer) ≡ reporting self card .reply) × (r .state ≡ reporting self card .state) ⌝ }
+    {
+        let number = self.report_refusal(card);
+        if number != 0 {
+            return Report {
+                answer: Reported::Refused(number),
+                state: self,
+            };
+        }
+        Report {
+            answer: Reported::Marked,
+            state: self.marked(card),
+        }
+    }
+}

@@ -1,0 +1,3 @@
+-- What the walks by hand share.
+pub mod Locals
+pub mod Records
