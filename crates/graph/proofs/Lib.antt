@@ -1,6 +1,11 @@
 -- Laws of the graphs, by subject.
+pub mod Guard
 pub mod Graphs
 pub mod Numbers
+pub mod Few
 pub mod Laws
 pub mod Shifts
-pub mod Sets
+pub mod Rules
+pub mod Positions
+pub mod Forerunners
+pub mod InOrder

@@ -3,3 +3,4 @@ pub mod Choice
 pub mod Steps
 pub mod Order
 pub mod Sums
+pub mod Asked

@@ -39,19 +39,23 @@ masked n mask p = ltb p n && bit p mask
 unfoldable pub unmasked : ℕ → ℕ → ℕ → Bool
 unmasked n mask p = ltb p n && not (bit p mask)
 
--- position p is read: 1, the masked units; 2, every unit but X, and parity; 3, the masked units and parity; 4, every unit outside the mask.
--- A graph never has a step on the card that was out when it was chosen: x, and so X
+-- position p is to be read: 1, the masked units; 2, every unit (but X), and parity; 3, the masked units and parity; 4, every unit outside the
+-- mask
+abbrev pub readBase : ℕ → ℕ → ℕ → ℕ → Bool
+readBase n g mask p =
+    byGraph g (masked n mask p) (leb p n) (masked n mask p || eqb p n) (unmasked n mask p) false false false
+
+-- position p is read. A graph never has a step on the card that was out when it was chosen: x, and so X
 unfoldable pub reads : ℕ → ℕ → ℕ → ℕ → ℕ → Bool
-reads n g mask x p =
-    byGraph g (masked n mask p) (leb p n) (masked n mask p || eqb p n) (unmasked n mask p) false false false && not (eqb p x)
+reads n g mask x p = readBase n g mask p && not (eqb p x)
 
 -- there is an exclusive or: 2, 3, 4 and 5
 unfoldable pub sums : ℕ → Bool
 sums g = byGraph g false true true true true false false
 
--- position p is written: 3, 4 and 5, the masked units and parity (of 5 the mask is all units); 6, the masked units
-unfoldable pub writes : ℕ → ℕ → ℕ → ℕ → ℕ → Bool
-writes n g mask x p =
+-- position p is to be written: 3, 4 and 5, the masked units and parity (of 5 the mask is all units); 6, the masked units
+abbrev pub writeBase : ℕ → ℕ → ℕ → ℕ → Bool
+writeBase n g mask p =
     byGraph g
     false
     false
@@ -60,7 +64,10 @@ writes n g mask x p =
     (masked n mask p || eqb p n)
     (masked n mask p)
     false
-    && not (eqb p x)
+
+-- position p is written: again not x
+unfoldable pub writes : ℕ → ℕ → ℕ → ℕ → ℕ → Bool
+writes n g mask x p = writeBase n g mask p && not (eqb p x)
 
 -- the step is in the graph
 unfoldable pub member : ℕ → ℕ → ℕ → ℕ → Step → Bool

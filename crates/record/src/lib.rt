@@ -1,5 +1,9 @@
 // The request record by value, and the table of up to eight of them.
 // Assumes nothing.
+pub use life::admitted;
+pub use life::free;
+
+mod life;
 
 // A request record. A free one is all zero.
 #[repr(C)]

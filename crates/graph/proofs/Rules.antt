@@ -1,19 +1,22 @@
 -- Sets made by rules: equal rules, both of two rules, a rule that holds of nothing or of one number, and the test that one set is in another.
 -- Assumes nothing.
-use Prim.Native.Nat.{ℕ, zero, suc, _+_, _^_, _≤_, _<_}
+use Prim.Native.Nat.{ℕ, _+_, _*_, _^_, _≤_, _<_}
 use mathlib.Core.Bool.{Bool, true, false, cond, not, _&&_, _||_}
 use mathlib.Core.Logic.{_⊎_, inl, inr, ⊎-elim}
 use mathlib.Core.Path.{_≡_, refl, sym, ap, _∙_}
-use native.Mathlib.Nat.{lt-of-le-of-lt, lt-of-lt-of-le, zero-add}
+use native.Mathlib.Nat.{lt-of-le-of-lt, lt-of-lt-of-le, zero-add, add-zero, mul-comm}
 use native.Mathlib.Omega.{arith}
 use lib.Bits.{bitAnd, and-le-l}
 use lib.Dec.{leb, eqb}
-use lib.Pow.{pow-pos, pow-mono, pow-lt}
-use borrow.Author.Tests.{eqb-true, eqb-false, eq-eqb, ne-eqb, leb-true, leb-false}
-use Rattle.terms.proofs.Bits.{bit-none, bit-beyond, bit-add-same, bit-add-other, bit-setOf, setOf-bound, is-setOf, bit-and, subset-elim, subset-intro}
+use lib.Pow.{pow-pos, pow-mono, pow-lt, pow-add}
+use borrow.Author.Tests.{eqb-true, eqb-false, eq-eqb, ne-eqb, leb-true, leb-false, not-true, not-false}
+use Rattle.terms.proofs.Bits.{bit-none, bit-ext, bit-beyond, bit-add-same, bit-add-other, bit-setOf, setOf-bound, is-setOf, bit-and, subset-elim, subset-intro}
 use Rattle.terms.proofs.Rows.{truth, true≢false, or-not-elim, or-not-intro}
-use Rattle.terms.proofs.Sets.{allBelow-elim, allBelow-intro}
+use Rattle.terms.proofs.Sets.{allBelow-elim, allBelow-intro, allBelow-fails}
 use Rattle.terms.specs.Sets.{bit, setOf, allBelow}
+
+pub pow-next : (n : ℕ) → 2 ^ (n + 1) ≡ 2 * 2 ^ n
+pow-next n = pow-add 2 n 1 ∙ mul-comm (2 ^ n) 2
 
 -- two tests that hold together are equal
 pub both-ways : (a b : Bool) → (a ≡ true → b ≡ true) → (b ≡ true → a ≡ true) → a ≡ b
@@ -69,3 +72,30 @@ subset-test n p d =
     eq-eqb (bitAnd (setOf n p) d) (setOf n p)
     (subset-intro n (setOf n p) d (setOf-bound n p)
     (λ i l h. or-not-elim (p i) (bit i d) (allBelow-elim n (λ j. not (p j) || bit j d) e i l) (sym (bit-setOf n p i l) ∙ h))))
+
+-- ---- a set below k, with k itself where b says so
+
+pub flag-bound : (k r : ℕ) (b : Bool) → r < 2 ^ k → r + cond b (2 ^ k) 0 < 2 ^ (k + 1)
+flag-bound k r true h = omega (arith, pow-next k)
+flag-bound k r false h = omega (arith, pow-next k)
+
+pub flag-below : (k r i : ℕ) (b : Bool) → r < 2 ^ k → i < k → bit i (r + cond b (2 ^ k) 0) ≡ bit i r
+flag-below k r i true h l = bit-add-other k r i (bit-beyond k r k h (omega arith)) (λ q. omega arith)
+flag-below k r i false h l = ap (bit i) (add-zero r)
+
+pub flag-at : (k r : ℕ) (b : Bool) → r < 2 ^ k → bit k (r + cond b (2 ^ k) 0) ≡ b
+flag-at k r true h = bit-add-same k r (bit-beyond k r k h (omega arith))
+flag-at k r false h = ap (bit k) (add-zero r) ∙ bit-beyond k r k h (omega arith)
+
+-- ---- a set that is not empty has a member
+
+pub some-bit : (n m : ℕ) → m < 2 ^ n → ¬ (m ≡ 0) → (p : ℕ) × (p < n) × (bit p m ≡ true)
+some-bit n m h z =
+    ⊎-elim
+    (λ e.
+    absurd
+    (z
+    (bit-ext n m 0 h (pow-pos n)
+    (λ i l. not-true (bit i m) (allBelow-elim n (λ i. not (bit i m)) e i l) ∙ sym (bit-none i)))))
+    (λ e. let (p, l, f) = allBelow-fails n (λ i. not (bit i m)) e in (p, l, not-false (bit p m) f))
+    (truth (allBelow n (λ i. not (bit i m))))

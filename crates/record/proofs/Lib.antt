@@ -1,0 +1,3 @@
+-- Laws of records and tables, by subject.
+pub mod Same
+pub mod Marks

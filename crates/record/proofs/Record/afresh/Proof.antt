@@ -1,0 +1,68 @@
+-- `afresh` meets its contract.
+-- Assumes nothing.
+use Prim.Native.Nat.{ℕ, _+_, _<_}
+use mathlib.Core.Bool.{Bool, true, false, cond}
+use mathlib.Core.Path.{_≡_, refl, sym, _∙_, ap₂}
+use borrow.Author.Needs.{needs}
+use borrow.Author.Tests.{not-true, not-false}
+use lib.Dec.{eqb}
+use Rattle.graph.specs.Choice.{choose}
+use Rattle.record.specs.Asked.{canCount, afreshOr}
+use Rattle.record.specs.Life.{afresh}
+use Rattle.record.proofs.Marks.{count-fits}
+use Rattle.record.proofs.Record.afresh.Statement.{statement}
+use Rattle.record.proofs.Record.afresh.Tie as tie
+use Rattle.record.proofs.Same.{same}
+
+can-count-requires : tie.Need-can-count-requires
+can-count-requires c κs = search needs
+
+room : (c : tie.Else1) → canCount (c .before .before .args .self) ≡ true
+room c = sym (c .before .can-count .ensures) ∙ not-false (c .before .can-count .result) (c .if1 .left)
+
+returns : tie.Need-returns
+unfolding afreshOr
+returns c = rw (sym (c .before .can-count .ensures) ∙ not-true (c .before .can-count .result) (c .if1 .taken))
+
+units-requires : tie.Need-units-requires
+units-requires c κs = search needs
+
+missing-in-requires : tie.Need-missing-in-requires
+missing-in-requires c κs = search needs
+
+choose-requires : tie.Need-choose-requires
+choose-requires c κs = search needs
+
+out-in-requires : tie.Need-out-in-requires
+out-in-requires c κs = search needs
+
+add-self : tie.Need-add-self
+add-self c =
+    let e = c .before .before .before .before .before .before in
+    count-fits (e .before .before .args .self) (room e)
+
+returns-2 : tie.Need-returns-2
+unfolding afreshOr afresh
+returns-2 c =
+    let e = c .before .before .before .before .before .before in
+    let a = e .before .before .args in
+    rw (room e)
+    (same _ (afresh (a .state) (a .self)) refl refl refl refl
+    (c .before .before .choose .ensures
+    ∙ ap₂ (λ (n x : ℕ). choose n (eqb (a .self .write) 1) (a .self .mask) x)
+    (c .before .before .before .before .before .units .ensures)
+    (c .before .before .before .missing-in .ensures))
+    (c .before .out-in .ensures) refl refl)
+
+pub afresh-spec : {M : Type 1} → statement M
+afresh-spec =
+    tie.close
+    (tie.spec
+    can-count-requires
+    returns
+    units-requires
+    missing-in-requires
+    choose-requires
+    out-in-requires
+    add-self
+    returns-2)

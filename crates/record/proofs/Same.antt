@@ -1,0 +1,18 @@
+-- Two records are equal where their numbers are.
+-- Assumes nothing.
+use Prim.Native.Nat.{ℕ}
+use mathlib.Core.Path.{_≡_}
+use Rattle.record.specs.declared.Record.{Record}
+
+pub same : (r q : Record) → r .phase ≡ q .phase → r .write ≡ q .write → r .stripe ≡ q .stripe → r .mask ≡ q .mask → r .graph ≡ q .graph
+    → r .chosen ≡ q .chosen → r .done ≡ q .done → r .count ≡ q .count → r ≡ q
+same r q a b c d e f g h = λ i. record {
+  phase = a i;
+  write = b i;
+  stripe = c i;
+  mask = d i;
+  graph = e i;
+  chosen = f i;
+  done = g i;
+  count = h i;
+}
