@@ -1,11 +1,21 @@
 //! The library, through the functions of include/coppicetune.h; this is the one file that knows their arguments.
-use crate::calls::Answer;
+use crate::calls::{Answer, State};
 #[cfg(feature = "engine")]
-use crate::calls::{Calls, Record, State};
+use crate::calls::{Calls, Record};
 
 extern "C" {
     fn coppicetune_place(cards: u64, stripes: u64, block: u64) -> u64;
     fn coppicetune_block_at(cards: u64, stripes: u64, card: u64, stripe: u64) -> u64;
+    fn coppicetune_scan(
+        cards: u64,
+        stripes: u64,
+        block: u64,
+        records: u64,
+        out: u64,
+        lost: u64,
+        image: *const u8,
+        image_len: usize,
+    ) -> u64;
 }
 
 pub fn place(cards: u64, stripes: u64, block: u64) -> Answer {
@@ -18,18 +28,15 @@ pub fn block_at(cards: u64, stripes: u64, card: u64, stripe: u64) -> Answer {
     Answer::of(unsafe { coppicetune_block_at(cards, stripes, card, stripe) })
 }
 
+pub fn scan(state: &State, image: &[u8]) -> Answer {
+    let State { cards, stripes, block, records, out, lost } = *state;
+    let (at, len) = (image.as_ptr(), image.len());
+    // Safe: the image is lent whole, for the time of the call.
+    Answer::of(unsafe { coppicetune_scan(cards, stripes, block, records, out, lost, at, len) })
+}
+
 #[cfg(feature = "engine")]
 extern "C" {
-    fn coppicetune_scan(
-        cards: u64,
-        stripes: u64,
-        block: u64,
-        records: u64,
-        out: u64,
-        lost: u64,
-        image: *const u8,
-        image_len: usize,
-    ) -> u64;
     fn coppicetune_open(
         state: *mut State,
         table: *mut Record,
