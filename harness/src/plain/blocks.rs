@@ -6,10 +6,15 @@ use super::refusal::Refusal;
 use super::state::State;
 use std::ops::Range;
 
-/// The place of a stripe's position in the image: card 0's blocks by stripe, then card 1's, and so on.
-pub fn in_image(state: &State, stripe: u64, position: u64) -> Range<usize> {
-    let card = card_at(state.cards, stripe, position);
+/// The place of a card's block of a stripe in the image: card 0's blocks by stripe, then card 1's,
+/// and so on.
+pub fn on_card(state: &State, card: u64, stripe: u64) -> Range<usize> {
     part((card * state.stripes + stripe) * state.block, state.block)
+}
+
+/// The place of a stripe's position in the image.
+pub fn in_image(state: &State, stripe: u64, position: u64) -> Range<usize> {
+    on_card(state, card_at(state.cards, stripe, position), stripe)
 }
 
 /// The place of a record's block to write; that of position n is for computed parity.
@@ -70,4 +75,12 @@ pub fn parity_is_right(state: &State, table: &[Record], image: &[u8]) -> Result<
         }
     }
     Ok(())
+}
+
+/// Gives every stripe the parity that is right for its units.
+pub fn make_right(state: &State, image: &mut [u8]) {
+    for stripe in 0..state.stripes {
+        let parity = stripe_sum(state, image, stripe, 0..state.units());
+        image[in_image(state, stripe, state.units())].copy_from_slice(parity.bytes(state));
+    }
 }

@@ -5,7 +5,7 @@
 //! i = n that is the parity card itself; so one rule places units and parity alike.
 
 use super::refusal::{demand, Refusal};
-use super::state::{State, NONE};
+use super::state::State;
 
 /// Where a logical block is.
 #[derive(Clone, Copy, PartialEq, Eq, Debug)]
@@ -38,8 +38,7 @@ pub fn position_on(cards: u64, stripe: u64, card: u64) -> u64 {
 
 /// N and S are within their limits; B is taken as 16, K as 1, and no card is out.
 fn demand_limits(cards: u64, stripes: u64) -> Result<(), Refusal> {
-    let state = State { cards, stripes, block: 16, records: 1, out: NONE, lost: 0 };
-    demand(state.within_limits(), Refusal::Limits)
+    demand(State::whole(cards, stripes, 16).within_limits(), Refusal::Limits)
 }
 
 /// Logical block L, from 0 to n·S-1, is unit L mod n of stripe L div n.

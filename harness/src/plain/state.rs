@@ -24,6 +24,11 @@ pub struct State {
 }
 
 impl State {
+    /// An array with one record and no card out.
+    pub fn whole(cards: u64, stripes: u64, block: u64) -> State {
+        State { cards, stripes, block, records: 1, out: NONE, lost: 0 }
+    }
+
     /// N, S, B, K and the card out are all within their limits.
     pub fn within_limits(&self) -> bool {
         (3..=8).contains(&self.cards)
@@ -37,6 +42,11 @@ impl State {
     /// n, the number of data units in a stripe.
     pub fn units(&self) -> u64 {
         self.cards - 1
+    }
+
+    /// N, S and B as lengths.
+    pub fn sizes(&self) -> (usize, usize, usize) {
+        (self.cards as usize, self.stripes as usize, self.block as usize)
     }
 
     pub fn image_length(&self) -> u64 {

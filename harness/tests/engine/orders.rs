@@ -5,21 +5,17 @@
 use crate::pair::{Call, Pair, Side};
 use crate::tested;
 use harness::calls::{Calls, Record, State};
-use harness::plain::blocks::{in_image, stripe_sum};
+use harness::plain::blocks::make_right;
 use harness::plain::Row;
 
 /// An array of `stripes` stripes with unlike bytes in all places and right parity.
 fn array(cards: u64, stripes: u64) -> Side {
-    let state = State { cards, stripes, block: 16, records: 1, out: 255, lost: 0 };
+    let state = State::whole(cards, stripes, 16);
     let mut side = Side::for_state(state);
     for (at, byte) in side.image.iter_mut().enumerate() {
         *byte = (at * 37 + at / 16 * 11) as u8;
     }
-    let units = state.units();
-    for stripe in 0..stripes {
-        let parity = stripe_sum(&state, &side.image, stripe, 0..units);
-        side.image[in_image(&state, stripe, units)].copy_from_slice(parity.bytes(&state));
-    }
+    make_right(&state, &mut side.image);
     side
 }
 

@@ -2,7 +2,7 @@
 
 use crate::pair::Side;
 use harness::calls::State;
-use harness::plain::blocks::{in_image, stripe_sum};
+use harness::plain::blocks::make_right;
 use harness::random::Random;
 
 /// Numbers of an array of moderate size: any N, few stripes, any B, any K.
@@ -24,10 +24,7 @@ pub fn some_side(random: &mut Random, state: State) -> Side {
     let mut side = Side::for_state(state);
     random.fill(&mut side.image);
     random.fill(&mut side.work);
-    for stripe in 0..state.stripes {
-        let parity = stripe_sum(&state, &side.image, stripe, 0..state.units());
-        side.image[in_image(&state, stripe, state.units())].copy_from_slice(parity.bytes(&state));
-    }
+    make_right(&state, &mut side.image);
     for record in &mut side.table {
         record.phase = random.below(4);
         record.count = random.number();

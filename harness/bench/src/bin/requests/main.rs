@@ -4,12 +4,12 @@
 //! is the part of the library's time in which no byte is copied or summed: what remains when the
 //! time of the bare copies and sums of the same request is taken away.
 //!
-//! Run it alone on the machine: `cargo run --release --bin bench`. It decides nothing.
+//! Run it alone on the machine. It decides nothing: it prints a table, which docs/PERFORMANCE.md keeps.
 
 mod moves;
 
 use harness::calls::{pack, Answer, Calls, Plain, Record, State, Tested};
-use harness::plain::blocks::{in_image, stripe_sum};
+use harness::plain::blocks::make_right;
 use harness::plain::graph::{members, Plan};
 use harness::plain::placement::card_at;
 use harness::random::Random;
@@ -33,7 +33,7 @@ pub struct Task {
 
 fn tasks(cards: u64, block: u64) -> [Task; 4] {
     let all = cards - 1;
-    let half = (all + 1) / 2;
+    let half = all.div_ceil(2);
     let task =
         |name, write, units, out, graph| Task { name, cards, block, write, units, out, graph };
     [
@@ -65,10 +65,7 @@ impl Bench {
         let state = State { cards, stripes: STRIPES, block, records: RECORDS, out, lost: 0 };
         let mut random = Random::new(cards);
         let mut image = random.bytes(state.image_length() as usize);
-        for stripe in 0..STRIPES {
-            let parity = stripe_sum(&state, &image, stripe, 0..state.units());
-            image[in_image(&state, stripe, state.units())].copy_from_slice(parity.bytes(&state));
-        }
+        make_right(&state, &mut image);
         let mask = (1 << task.units) - 1;
         let plan = Plan::new(state.units(), task.graph, mask, task.out);
         let length = (task.units * block) as usize;
@@ -116,7 +113,7 @@ impl Clock {
     fn time(&mut self, requests: usize, mut round: impl FnMut()) {
         let start = Instant::now();
         let mut rounds = 0;
-        while start.elapsed() < Duration::from_millis(20) {
+        while start.elapsed() < Duration::from_millis(5) {
             round();
             rounds += 1;
         }
@@ -131,7 +128,7 @@ fn run(task: &Task) {
     let moves = moves::all(&bench, task);
     let (mut tested, mut plain, mut bare) = (Clock(f64::MAX), Clock(f64::MAX), Clock(f64::MAX));
     // The three take turns, so that a busy moment of the machine hits none of them alone.
-    for _ in 0..15 {
+    for _ in 0..80 {
         tested.time(requests, || bench.round(&Tested, task.write));
         plain.time(requests, || bench.round(&Plain, task.write));
         bare.time(requests, || moves::carry_out(&mut bench, &moves));
