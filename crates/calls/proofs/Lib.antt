@@ -1,2 +1,3 @@
 -- What the walks of the calls share.
 pub mod States
+pub mod Bridge
