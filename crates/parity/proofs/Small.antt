@@ -1,14 +1,14 @@
--- An idle scan's answer has small numbers: what a packed answer has room for.
+-- A scan's answer has small numbers: what a packed answer has room for.
 -- Assumes nothing.
 use Prim.Native.Nat.{ℕ, _≤_}
 use mathlib.Core.Bool.{Bool, true, false, cond, not, _&&_}
 use mathlib.Core.List.{List, [], _∷_}
-use mathlib.Core.Path.{_≡_, refl, sym}
+use mathlib.Core.Path.{_≡_, refl}
 use native.Mathlib.Omega.{arith}
 use borrow.Author.Tests.{leb-true}
 use lib.Dec.{leb, ltb, eqb}
 use Rattle.terms.specs.Lists.{every}
-use Rattle.terms.specs.Reply.{Reply, Row, accepted, refused, firstRow, onAccept, refusedOr13}
+use Rattle.terms.specs.Reply.{Reply, Row, row, accepted, refused, firstRow, onAccept, refusedOr13}
 use Rattle.terms.proofs.Rows.{and-left, and-right}
 use Rattle.terms.proofs.Sets.{lowest-le}
 use Rattle.geometry.specs.Limits.{beyondState, geometryOf}
@@ -16,10 +16,9 @@ use Rattle.geometry.specs.declared.State.{State}
 use Rattle.geometry.proofs.Bounds.{within-limits}
 use Rattle.parity.specs.Parity.{parityByte, wrongByte, wrongStripe, disagreement}
 use Rattle.parity.specs.Scan.{nothingHeld, idleScanRefusal, idleScanReply}
-use Rattle.parity.proofs.Replies.{idle-beyond}
 
 -- a table gives no number above those of its rows
-firstRow-le : (k : ℕ) (rows : List Row) → every (λ r. leb (r .gives) k) rows ≡ true → firstRow rows ≤ k
+pub firstRow-le : (k : ℕ) (rows : List Row) → every (λ r. leb (r .gives) k) rows ≡ true → firstRow rows ≤ k
 unfolding firstRow every
 firstRow-le k [] e = omega arith
 firstRow-le k (r ∷ rows) e =
@@ -45,29 +44,32 @@ pub record Small (r : Reply) : Type 0 where
   pub first : r .first ≤ 1024
   pub second : r .second ≤ 512
 
--- a reply made of a number and the values of 13
-reply-small : (n : ℕ) (d : Reply) → n ≤ 13 → Small d → Small (onAccept n (accepted 0 0) (refusedOr13 n d))
-reply-small n d h s = go (eqb n 0) (eqb n 13)
-  where
-    go : (a b : Bool) → Small (cond a (accepted 0 0) (cond b d (refused n)))
-    go true b = record { number = omega arith; first = omega arith; second = omega arith }
-    go false true = s
-    go false false = record { number = h; first = omega arith; second = omega arith }
+-- 13's stripe and byte, of an array within its limits
+pub disagreement-small : (N S B : ℕ) (image : List ℕ) (pass : ℕ → Bool) → S ≤ 1024 → B ≤ 512 → Small (disagreement N S B image pass)
+unfolding disagreement
+disagreement-small N S B image pass s b =
+    record {
+      number = omega arith;
+      first = omega (arith, wrongStripe-le N S B image pass);
+      second = omega (arith, wrongByte-le N S B image (wrongStripe N S B image pass));
+    }
 
-module _ (st : State) (image : List ℕ) where
-  pub idle-small : Small (idleScanReply st image)
-  unfolding idleScanReply idleScanRefusal every disagreement
-  idle-small = go (beyondState st) refl
-    where
-      go : (b : Bool) → beyondState st ≡ b → Small (idleScanReply st image)
-      go true e = rw (sym (idle-beyond st image e)) (record { number = omega arith; first = omega arith; second = omega arith })
-      go false e =
-          let limits = within-limits (geometryOf st) (st .out) e in
-          let s = wrongStripe (st .cards) (st .stripes) (st .block) image nothingHeld in
-          reply-small (idleScanRefusal st image) (disagreement (st .cards) (st .stripes) (st .block) image nothingHeld)
-          (firstRow-le 13 _ refl)
-          (record {
-            number = omega arith;
-            first = omega (arith, limits .stripes-high, wrongStripe-le (st .cards) (st .stripes) (st .block) image nothingHeld);
-            second = omega (arith, limits .block-high, wrongByte-le (st .cards) (st .stripes) (st .block) image s);
-          })
+-- a scan's reply, by a table whose first row is refusal 1 and the values of 13
+pub scan-small : (b : Bool) (rows : List Row) (d : Reply) → every (λ r. leb (r .gives) 13) rows ≡ true → (b ≡ false → Small d)
+    → Small (onAccept (firstRow (row b 1 ∷ rows)) (accepted 0 0) (refusedOr13 (firstRow (row b 1 ∷ rows)) d))
+unfolding firstRow
+scan-small true rows d e s = record { number = omega arith; first = omega arith; second = omega arith }
+scan-small false rows d e s = go (eqb (firstRow rows) 0) (eqb (firstRow rows) 13)
+  where
+    go : (a c : Bool) → Small (cond a (accepted 0 0) (cond c d (refused (firstRow rows))))
+    go true c = record { number = omega arith; first = omega arith; second = omega arith }
+    go false true = s refl
+    go false false = record { number = firstRow-le 13 rows e; first = omega arith; second = omega arith }
+
+pub idle-small : (st : State) (image : List ℕ) → Small (idleScanReply st image)
+unfolding idleScanReply idleScanRefusal every
+idle-small st image =
+    scan-small (beyondState st) _ _ refl
+    (λ e.
+    let limits = within-limits (geometryOf st) (st .out) e in
+    disagreement-small (st .cards) (st .stripes) (st .block) image nothingHeld (limits .stripes-high) (limits .block-high))

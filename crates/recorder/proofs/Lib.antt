@@ -1,2 +1,4 @@
--- The law of packing.
+-- The laws of packing.
 pub mod Unpacking
+pub mod Cases
+pub mod Room

@@ -1,26 +1,19 @@
-// The functions that a C program calls: numbers and bytes in, and one number out, packed as docs/C-INTERFACE.md says. No number traps.
+// The functions that a C program calls: each answers one number, packed as docs/C-INTERFACE.md says, and no number traps. Here placement and
+// the scan of an array with nothing open, by numbers and bytes; the whole engine is in `engine`.
 // Assumes nothing.
 ghost use mathlib.Core.Path.{_≡_};
-ghost use Prim.Native.Nat.{_<_, _^_};
 ghost use Rattle.geometry.specs.Answers.{placeReply, blockAtReply};
 ghost use Rattle.parity.specs.Scan.{idleScanReply};
 ghost use Rattle.recorder.specs.Packing.{packed};
+use crate::packing::pack;
+use crate::packing::scanned;
 use geometry::Geometry;
 use geometry::Held;
 use geometry::Placed;
 use geometry::State;
-use parity::Scan;
 
-// An answer's number and values as one number.
-fn pack(number: u64, first: u64, second: u64) -> u64
-    requires { ⌜ (number < 2 ^ 16) × (first < 2 ^ 16) × (second < 2 ^ 32) ⌝ }
-    ensures { λ r. ⌜ r ≡ packed (record { number = number; first = first; second = second }) ⌝ }
-{
-    let high = second * 4294967296;
-    let middle = first * 65536;
-    let low = number + middle;
-    low + high
-}
+pub mod engine;
+mod packing;
 
 // The card and the stripe of a block.
 #[no_mangle]
@@ -70,10 +63,5 @@ pub extern "C" fn coppicetune_scan(
         out,
         lost,
     };
-    let scan = parity::idle_scan(state, image);
-    match scan {
-        Scan::Right => pack(0, 0, 0),
-        Scan::Disagrees { stripe, byte } => pack(13, stripe, byte),
-        Scan::Refused(number) => pack(number, 0, 0),
-    }
+    scanned(parity::idle_scan(state, image))
 }

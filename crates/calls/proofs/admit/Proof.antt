@@ -60,7 +60,7 @@ use Rattle.table.proofs.Fields.{parts}
 use Rattle.table.proofs.Records.{vals}
 use Rattle.table.proofs.Uses.{copies, puts}
 use Rattle.calls.proofs.Bridge.{admit-lent}
-use Rattle.calls.proofs.Bytes.{twice, lasting}
+use Rattle.calls.proofs.Passing.{twice, lasting}
 use Rattle.calls.proofs.admit.Key.{name as #admit}
 use Rattle.calls.proofs.admit as admit
 use Rattle.calls.proofs.admit.Statement as stated
@@ -138,7 +138,7 @@ module _ {M : Type 1} (𝓤 : URA M) (H : Heap 𝓤) (𝓜 : Model 𝓤 H) (𝓖
         copies 𝓤 H 𝓜 𝓖 𝓡 code.env (named 0) κ q b o γ ys code.calls-table·copied ! (λ _ _ _. and-then ! (local ! 27 refl) (no-more !)) (λ is-copy.
         lands-in ! 20 refl (LL.lawful B.the-type B′.the-laws 𝓤 H A W .typed (copyOf ys) _ is-copy .0) $
         reborrows ! 8 28 30 refl refl refl tt refl refl refl (tt, (tt, (record { fits = w-fits .0 }, tt))) $
-        move ! (43 ∷ []) $ twice ! (named 2) κm m $ move ! (48 ∷ []) $ twice ! (named 3) κp p $ move ! (42 ∷ 43 ∷ 44 ∷ 46 ∷ 2 ∷ 0 ∷ []) $
+        move ! (43 ∷ []) $ twice ! u8 (named 2) κm m $ move ! (48 ∷ []) $ twice ! u8 (named 3) κp p $ move ! (42 ∷ 43 ∷ 44 ∷ 46 ∷ 2 ∷ 0 ∷ []) $
         calls-said 𝓤 H A core.ended asked (
           (
             (κw, (κm, (κp, tt))),
@@ -154,7 +154,7 @@ module _ {M : Type 1} (𝓤 : URA M) (H : Heap 𝓤) (𝓜 : Model 𝓤 H) (𝓖
         (made (uint-makes 𝓤 H A W w64 s _ (refl, s-fits)) (made (uint-makes 𝓤 H A W w64 mask _ (refl, mask-fits)) (had nil))))))))
         (and-then ! (local ! 7 refl) (and-then ! (local ! 23 refl) (and-then ! (local ! 33 refl) (and-then ! (local ! 13 refl) (and-then ! (local ! 15 refl) (and-then ! (local ! 17 refl) (and-then ! (local ! 19 refl) (and-then ! (local ! 21 refl) (no-more !))))))))) (λ r ws e is-out.
         lands-in ! 28 refl (LL.lawful O.the-type O′.the-laws 𝓤 H A W .typed r _ is-out .0) $
-        move ! (3 ∷ []) $ lasting ! (λ w-long. move ! (6 ∷ 7 ∷ []) $
+        move ! (3 ∷ []) $ lasting ! u8 (λ w-long. move ! (6 ∷ 7 ∷ []) $
         -- [the table's token; what the table owns; work's last value; the others' tokens; payload; image; _0; …; _17; …; what state, write, stripe and mask own]
         reborrows ! 12 40 42 refl refl refl tt refl refl refl (tt, (tt, (record { fits = fits .0 }, tt))) $
         puts 𝓤 H 𝓜 𝓖 𝓡 code.env (named 0) κ q b o γ ys code.calls-table·replace (r .place) (r .«record») (place-fits r is-out) (record-is r is-out) !

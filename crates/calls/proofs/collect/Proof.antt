@@ -59,7 +59,7 @@ use Rattle.table.proofs.Fields.{parts}
 use Rattle.table.proofs.Records.{vals}
 use Rattle.table.proofs.Uses.{copies, puts}
 use Rattle.calls.proofs.Bridge.{collect-lent}
-use Rattle.calls.proofs.Bytes.{twice, lasting}
+use Rattle.calls.proofs.Passing.{twice, lasting}
 use Rattle.calls.proofs.collect.Key.{name as #collect}
 use Rattle.calls.proofs.collect as collect
 use Rattle.calls.proofs.collect.Statement as stated
@@ -115,13 +115,13 @@ module _ {M : Type 1} (𝓤 : URA M) (H : Heap 𝓤) (𝓜 : Model 𝓤 H) (𝓖
         copies 𝓤 H 𝓜 𝓖 𝓡 code.env (named 0) κ q b o γ ys code.calls-table·copied ! (λ _ _ _. and-then ! (local ! 21 refl) (no-more !)) (λ is-copy.
         lands-in ! 14 refl (LL.lawful B.the-type B′.the-laws 𝓤 H A W .typed (copyOf ys) _ is-copy .0) $
         reborrows ! 12 22 24 refl refl refl tt refl refl refl (tt, (tt, (record { fits = m-fits .0 }, tt))) $
-        move ! (35 ∷ []) $ twice ! (named 1) κw w $ move ! (34 ∷ 35 ∷ 0 ∷ 38 ∷ []) $
+        move ! (35 ∷ []) $ twice ! u8 (named 1) κw w $ move ! (34 ∷ 35 ∷ 0 ∷ 38 ∷ []) $
         calls-said 𝓤 H A core.ended asked (((κw, (κm, tt)), (qw, (qm, tt)), tt, (st, (copyOf ys, (w, (i, (m, tt))))), (st-vals, (B′.lowered (copyOf ys) ∷ [], (slice-vals w, (vint w64 i ∷ [], (slice-vals m, tt)))))), tt) W ! (framed 𝓤 H 𝓜 𝓖 𝓡 code.env) known (id⊢ 𝓤 _)
         O′.lowered (O′.lowers .val-is) (λ r ws. CollectionIs (collection st (recordsOf (copyOf ys)) (w .now) i (m .now)) (recordsOf (copyOf ys)) i r (ws .1 .1 .1 .1 .0)) (λ r ws. id⊢ 𝓤 _)
         (made (LL.makes S.the-type S′.the-plain 𝓤 H A st _ is) (made (LL.makes B.the-type B′.the-plain 𝓤 H A (copyOf ys) _ is-copy) (had (made (uint-makes 𝓤 H A W w64 i _ (refl, i-fits)) (had nil)))))
         (and-then ! (local ! 6 refl) (and-then ! (local ! 16 refl) (and-then ! (local ! 10 refl) (and-then ! (local ! 12 refl) (and-then ! (local ! 26 refl) (no-more !)))))) (λ r ws e is-out.
         lands-in ! 20 refl (LL.lawful O.the-type O′.the-laws 𝓤 H A W .typed r _ is-out .0) $
-        move ! (2 ∷ []) $ lasting ! (λ m-long. move ! (4 ∷ 5 ∷ []) $
+        move ! (2 ∷ []) $ lasting ! u8 (λ m-long. move ! (4 ∷ 5 ∷ []) $
         -- [the table's token; what the table owns; the result's last value; the others' tokens; the work store; _0; …; _14; …; what state and i own]
         reborrows ! 10 32 34 refl refl refl tt refl refl refl (tt, (tt, (record { fits = fits .0 }, tt))) $
         puts 𝓤 H 𝓜 𝓖 𝓡 code.env (named 0) κ q b o γ ys code.calls-table·replace (r .place) (r .«record») (place-fits r is-out) (record-is r is-out) !

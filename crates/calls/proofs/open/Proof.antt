@@ -62,7 +62,7 @@ use Rattle.table.proofs.Fields.{parts}
 use Rattle.table.proofs.Uses.{copies, frees-all}
 use Rattle.calls.specs.Lent.{OpeningLent}
 use Rattle.calls.proofs.Bridge.{open-lent}
-use Rattle.calls.proofs.Bytes.{twice}
+use Rattle.calls.proofs.Passing.{twice}
 use Rattle.calls.proofs.is_open as tested
 use Rattle.calls.proofs.is_open.Symbol as tested-def
 use Rattle.calls.proofs.is_open.Symbol.{name as #tested}
@@ -134,7 +134,7 @@ module _ {M : Type 1} (𝓤 : URA M) (H : Heap 𝓤) (𝓜 : Model 𝓤 H) (𝓖
         -- [the table's token; what the table owns; _0; …; _13; …; the others' tokens; what geometry, out, work and image own]
         copies 𝓤 H 𝓜 𝓖 𝓡 code.env (named 0) κ q b o γ ys code.calls-table·copied ! (λ _ _ _. and-then ! (local ! 21 refl) (no-more !)) (λ is-copy.
         lands-in ! 14 refl (LL.lawful B.the-type B′.the-laws 𝓤 H A W .typed (copyOf ys) _ is-copy .0) $
-        move ! (34 ∷ []) $ twice ! (named 1) κw w $ move ! (36 ∷ []) $ twice ! (named 2) κm m $ move ! (34 ∷ 35 ∷ 2 ∷ 0 ∷ []) $
+        move ! (34 ∷ []) $ twice ! u8 (named 1) κw w $ move ! (36 ∷ []) $ twice ! u8 (named 2) κm m $ move ! (34 ∷ 35 ∷ 2 ∷ 0 ∷ []) $
         calls-said 𝓤 H A core.ended asked (((κw, (κm, tt)), (qw, (qm, tt)), tt, (g, (out, (copyOf ys, (w, (m, tt))))), (g-vals, (vint w64 out ∷ [], (B′.lowered (copyOf ys) ∷ [], (slice-vals w, (slice-vals m, tt)))))), tt) W ! (framed 𝓤 H 𝓜 𝓖 𝓡 code.env) known (id⊢ 𝓤 _)
         O′.lowered (O′.lowers .val-is) (λ r _. OpeningIs (opening g out (recordsOf (copyOf ys)) (w .now) (m .now)) r) (λ r ws. id⊢ 𝓤 _)
         (made (LL.makes G.the-type G′.the-plain 𝓤 H A g _ is) (made (uint-makes 𝓤 H A W w64 out _ (refl, out-fits)) (made (LL.makes B.the-type B′.the-plain 𝓤 H A (copyOf ys) _ is-copy) (had (had nil)))))

@@ -55,7 +55,7 @@ use Rattle.table.proofs.copied.Symbol as copied-def
 use Rattle.table.proofs.copied.Symbol.{name as #copied}
 use Rattle.table.proofs.copied.Met as copied-thm
 use Rattle.calls.proofs.Bridge.{scan-lent}
-use Rattle.calls.proofs.Bytes.{twice}
+use Rattle.calls.proofs.Passing.{twice}
 use Rattle.calls.proofs.scan.Key.{name as #scan}
 use Rattle.calls.proofs.scan as scan
 use Rattle.calls.proofs.scan.Statement as stated
@@ -103,7 +103,7 @@ module _ {M : Type 1} (𝓤 : URA M) (H : Heap 𝓤) (𝓜 : Model 𝓤 H) (𝓖
         reads T.the-row [] tt (plain (λ _. B.the-row)) 𝓤 H A copying κ q t tt tt tt W B′.lowered (copyOf (t .now)) ! (framed 𝓤 H 𝓜 𝓖 𝓡 code.env) known-copy
         (id⊢ 𝓤 _) (B′.lowers .val-is) (λ r ws. id⊢ 𝓤 _) (λ Δ. nil) (λ _. and-then ! (local ! 6 refl) (no-more !)) (λ is-copy.
         lands-in ! 10 refl (LL.lawful B.the-type B′.the-laws 𝓤 H A W .typed (copyOf (t .now)) _ is-copy .0) $
-        move ! (14 ∷ []) $ twice ! (named 1) κm m $ move ! (14 ∷ 0 ∷ []) $
+        move ! (14 ∷ []) $ twice ! u8 (named 1) κm m $ move ! (14 ∷ 0 ∷ []) $
         calls-said 𝓤 H A core.ended asked (((κm, tt), (qm, tt), tt, (st, (copyOf (t .now), (m, tt))), (st-vals, (B′.lowered (copyOf (t .now)) ∷ [], (slice-vals m, tt)))), tt) W ! (framed 𝓤 H 𝓜 𝓖 𝓡 code.env) known (id⊢ 𝓤 _)
         N′.lowered (N′.lowers .val-is) (λ r _. (reply r ≡ scanReply st (recordsOf (copyOf (t .now))) (m .now)) × Named r) (λ r ws. id⊢ 𝓤 _)
         (made (LL.makes S.the-type S′.the-plain 𝓤 H A st _ is) (made (LL.makes B.the-type B′.the-plain 𝓤 H A (copyOf (t .now)) _ is-copy) (had nil)))

@@ -59,7 +59,7 @@ use Rattle.table.proofs.Fields.{parts}
 use Rattle.table.proofs.Records.{vals}
 use Rattle.table.proofs.Uses.{copies, puts}
 use Rattle.calls.proofs.Bridge.{step-lent}
-use Rattle.calls.proofs.Bytes.{lasting}
+use Rattle.calls.proofs.Passing.{lasting}
 use Rattle.calls.proofs.step.Key.{name as #step}
 use Rattle.calls.proofs.step as step
 use Rattle.calls.proofs.step.Statement as stated
@@ -121,7 +121,7 @@ module _ {M : Type 1} (𝓤 : URA M) (H : Heap 𝓤) (𝓜 : Model 𝓤 H) (𝓖
         (made (LL.makes S.the-type S′.the-plain 𝓤 H A st _ is) (made (LL.makes B.the-type B′.the-plain 𝓤 H A (copyOf ys) _ is-copy) (had (had (made (uint-makes 𝓤 H A W w64 i _ (refl, i-fits)) (made (uint-makes 𝓤 H A W w64 k _ (refl, k-fits)) nil))))))
         (and-then ! (local ! 5 refl) (and-then ! (local ! 17 refl) (and-then ! (local ! 27 refl) (and-then ! (local ! 31 refl) (and-then ! (local ! 13 refl) (and-then ! (local ! 15 refl) (no-more !))))))) (λ r ws e is-out.
         lands-in ! 22 refl (LL.lawful O.the-type O′.the-laws 𝓤 H A W .typed r _ is-out .0) $
-        move ! (2 ∷ []) $ lasting ! (λ w-long. move ! (3 ∷ []) $ lasting ! (λ m-long. move ! (4 ∷ 5 ∷ []) $
+        move ! (2 ∷ []) $ lasting ! u8 (λ w-long. move ! (3 ∷ []) $ lasting ! u8 (λ m-long. move ! (4 ∷ 5 ∷ []) $
         -- [the table's token; what the table owns; the image's last value; work's; the others' tokens; _0; …; _17; …; what state, i and k own]
         reborrows ! 10 38 40 refl refl refl tt refl refl refl (tt, (tt, (record { fits = fits .0 }, tt))) $
         puts 𝓤 H 𝓜 𝓖 𝓡 code.env (named 0) κ q b o γ ys code.calls-table·replace (r .place) (r .«record») (place-fits r is-out) (record-is r is-out) !

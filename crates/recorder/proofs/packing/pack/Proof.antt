@@ -1,10 +1,10 @@
--- `recorder::pack` meets its contract.
+-- `recorder::packing::pack` meets its contract.
 -- Assumes nothing.
 use mathlib.Core.Path.{refl}
 use borrow.Author.Needs.{needs}
 use Rattle.recorder.specs.Packing.{packed}
-use Rattle.recorder.proofs.pack.Statement.{statement}
-use Rattle.recorder.proofs.pack.Tie as tie
+use Rattle.recorder.proofs.packing.pack.Statement.{statement}
+use Rattle.recorder.proofs.packing.pack.Tie as tie
 
 mul-high : tie.Need-mul-high
 mul-high c = search needs

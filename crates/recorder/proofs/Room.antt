@@ -1,0 +1,147 @@
+-- Every answer of the functions has room in one packed number: a record is below 8, a graph at most 6, a count at most 2n+3 and so 17, a stripe at
+-- most 1,024 and a byte at most 512.
+-- Assumes nothing.
+use Prim.Native.Nat.{ℕ, _+_, _-_, _*_, _≤_}
+use mathlib.Core.Bool.{Bool, true, false, cond, not, _&&_, _||_}
+use mathlib.Core.List.{List, [], _∷_}
+use mathlib.Core.Path.{_≡_, refl}
+use native.Mathlib.Omega.{arith}
+use lib.Dec.{eqb, leb}
+use lib.ListN.{getD}
+use borrow.Author.Tests.{eqb-true, eqb-false, ne-eqb, leb-true, leb-false, not-false}
+use Rattle.terms.specs.Lists.{every}
+use Rattle.terms.specs.Reply.{Reply, accepted, refused, onAccept}
+use Rattle.terms.proofs.Lists.{every-elim}
+use Rattle.terms.proofs.Rows.{and-left, and-right, or-false-left}
+use Rattle.geometry.specs.Limits.{beyondState, isLost}
+use Rattle.geometry.specs.Report.{reporting, reportRefusal}
+use Rattle.geometry.specs.Store.{workWrong}
+use Rattle.geometry.specs.declared.Geometry.{Geometry}
+use Rattle.geometry.specs.declared.State.{State}
+use Rattle.geometry.proofs.Bounds.{within-limits}
+use Rattle.geometry.proofs.Lengths.{state-bounds}
+use Rattle.graph.specs.Choice.{choose, chooseRead, chooseWrite}
+use Rattle.graph.specs.Steps.{stepOf}
+use Rattle.parity.specs.Scan.{idleScanReply, nothingHeld}
+use Rattle.parity.proofs.Small.{Small, firstRow-le, disagreement-small, scan-small, idle-small}
+use Rattle.record.specs.Life.{free, isFree, isOpen, isFinished, isWrite, unitsOf, missingIn, afresh}
+use Rattle.record.specs.Sound.{held, sound, soundRecord, apart, legalRecord, legalChosen, rightGraph, rightSteps, rightCount, lacksNone}
+use Rattle.record.specs.declared.Record.{Record}
+use Rattle.array.specs.Admission.{admission}
+use Rattle.array.specs.Collection.{collection, collecting}
+use Rattle.array.specs.Lent.{tableWrong}
+use Rattle.array.specs.Opening.{opening}
+use Rattle.array.specs.Refusals.{openRefusal, admitRefusal, stepRefusal, collectRefusal, scanRefusal, resultShort}
+use Rattle.array.specs.Scan.{scanReply}
+use Rattle.array.specs.Stepping.{Stepping, stepping, accepting, meetsOut}
+use Rattle.array.proofs.Passed.{passed, table-length, admit-passed, collect-passed}
+use Rattle.recorder.specs.Packing.{Roomy}
+
+-- small values have room
+roomy : (r : Reply) → Small r → Roomy r
+roomy r s = record { number = omega (arith, s .number); first = omega (arith, s .first); second = omega (arith, s .second) }
+
+-- a reply with a number, and a first value where it is accepted
+module _ (n v : ℕ) (number : n ≤ 13) (value : n ≡ 0 → v ≤ 1024) where
+  pub one-small : Small (onAccept n (accepted v 0) (refused n))
+  one-small = go (eqb n 0) refl
+    where
+      go : (b : Bool) → eqb n 0 ≡ b → Small (cond b (accepted v 0) (refused n))
+      go true e = record { number = omega arith; first = value (eqb-true n 0 e); second = omega arith }
+      go false e = record { number = number; first = omega arith; second = omega arith }
+
+-- the table chooses a graph from 1 to 6
+choose-le : (n : ℕ) (write : Bool) (mask x : ℕ) → choose n write mask x ≤ 6
+unfolding choose chooseWrite chooseRead every
+choose-le n true mask x = firstRow-le 6 _ refl
+choose-le n false mask x = firstRow-le 6 _ refl
+
+-- a sound record that is finished counts at most 2n+3
+finished-count : (st : State) (r : Record) → soundRecord st r ≡ true → isFinished r ≡ true → r .count ≤ 2 * unitsOf st + 3
+unfolding soundRecord rightCount
+finished-count st r e f =
+    let phase : r .phase ≡ 2 = eqb-true (r .phase) 2 f in
+    let s : (legalRecord st r && legalChosen st r && rightGraph st r && rightSteps st r && rightCount st r) ≡ true =
+    rw (ne-eqb (r .phase) 0 (λ z. omega arith)) at e in
+    let counted = and-right (legalRecord st r && legalChosen st r && rightGraph st r && rightSteps st r) (rightCount st r) s in
+    let most : (lacksNone st r && leb (r .count) (2 * unitsOf st + 3)) ≡ true = rw (ne-eqb (r .phase) 1 (λ z. omega arith)) at counted in
+    leb-true (r .count) (2 * unitsOf st + 3) (and-right (lacksNone st r) (leb (r .count) (2 * unitsOf st + 3)) most)
+
+-- no number of a refusal is above 13
+step-number : (st : State) (table : List Record) (work image : List ℕ) (i k : ℕ) → stepRefusal st table work image i k ≤ 13
+unfolding stepRefusal every
+step-number st table work image i k = firstRow-le 13 _ refl
+
+collect-number : (st : State) (table : List Record) (work : List ℕ) (i : ℕ) (result : List ℕ) → collectRefusal st table work i result ≤ 13
+unfolding collectRefusal every
+collect-number st table work i result = firstRow-le 13 _ refl
+
+pub idle-room : (st : State) (image : List ℕ) → Roomy (idleScanReply st image)
+idle-room st image = roomy _ (idle-small st image)
+
+pub scan-room : (st : State) (table : List Record) (image : List ℕ) → Roomy (scanReply st table image)
+unfolding scanReply scanRefusal every
+scan-room st table image =
+    roomy _
+    (scan-small (beyondState st) _ _ refl
+    (λ e.
+    let limits = state-bounds st e in
+    disagreement-small (st .cards) (st .stripes) (st .block) image (held table) (limits .stripes-high) (limits .block-high)))
+
+pub open-room : (g : Geometry) (out : ℕ) (table : List Record) (work image : List ℕ) → Roomy (opening g out table work image .reply)
+unfolding opening openRefusal every
+open-room g out table work image =
+    roomy _
+    (scan-small _ _ _ refl
+    (λ e.
+    let limits = within-limits g out e in
+    disagreement-small (g .cards) (g .stripes) (g .block) image nothingHeld (limits .stripes-high) (limits .block-high)))
+
+pub report-room : (st : State) (c : ℕ) → Roomy (reporting st c .reply)
+unfolding reporting reportRefusal every
+report-room st c = roomy _ (one-small (reportRefusal st c) 0 (firstRow-le 13 _ refl) (λ _. omega arith))
+
+pub admit-room : (st : State) (table : List Record) (work image : List ℕ) (write : Bool) (s mask : ℕ) (payload : List ℕ) → Roomy (admission st table work image write s mask payload .reply)
+unfolding admission admitRefusal every
+admit-room st table work image write s mask payload =
+    roomy _
+    (one-small (admitRefusal st table work image write s mask payload) _ (firstRow-le 13 _ refl)
+    (λ z.
+    let a = admit-passed st table work image write s mask payload z in
+    omega (arith, a .some-free, a .right .table-right, state-bounds st (a .right .limits))))
+
+-- a done step answers 0, one that meets the card that is out the new graph
+step-cases : (a b : Bool) (x y z : Stepping) → Small (x .reply) → Small (y .reply) → Small (z .reply) → Small (cond {A = Stepping} a (cond b x y) z .reply)
+step-cases true true x y z p q r = p
+step-cases true false x y z p q r = q
+step-cases false b x y z p q r = r
+
+pub step-room : (st : State) (table : List Record) (work image : List ℕ) (i k : ℕ) → Roomy (stepping st table work image i k .reply)
+unfolding stepping accepting afresh
+step-room st table work image i k =
+    let r = getD table i free in
+    roomy _
+    (step-cases (eqb (stepRefusal st table work image i k) 0) (meetsOut (missingIn st (r .stripe)) (stepOf (unitsOf st) k)) _ _ _
+    (record { number = omega arith; first = omega (arith, choose-le (unitsOf st) (isWrite r) (r .mask) (missingIn st (r .stripe))); second = omega arith })
+    (record { number = omega arith; first = omega arith; second = omega arith })
+    (record { number = step-number st table work image i k; first = omega arith; second = omega arith }))
+
+-- the record that an accepted collect takes is sound
+collected-count : (st : State) (table : List Record) (work : List ℕ) (i : ℕ) (result : List ℕ) → collectRefusal st table work i result ≡ 0 → getD table i free .count ≤ 17
+unfolding collectRefusal sound
+collected-count st table work i result z =
+    let a = passed (beyondState st) 0 _ z in
+    let b = passed (tableWrong st table || workWrong st work) 1 _ (a .1) in
+    let c = passed (not (sound st table)) 2 _ (b .1) in
+    let f = collect-passed st table work i result z in
+    let long = table-length st table (or-false-left (tableWrong st table) (workWrong st work) (b .0)) in
+    let all = and-left (every (soundRecord st) table) (apart table) (not-false _ (c .0)) in
+    let count = finished-count st (getD table i free) (every-elim (soundRecord st) table i free all (omega (arith, f .record-below))) (f .is-finished) in
+    omega (arith, count, state-bounds st (a .0))
+
+pub collect-room : (st : State) (table : List Record) (work : List ℕ) (i : ℕ) (result : List ℕ) → Roomy (collection st table work i result .reply)
+unfolding collection collecting
+collect-room st table work i result =
+    roomy _
+    (one-small (collectRefusal st table work i result) _ (collect-number st table work i result)
+    (λ z. omega (arith, collected-count st table work i result z)))
