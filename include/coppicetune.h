@@ -1,4 +1,7 @@
-/* The functions of the array library that a C program calls. docs/C-INTERFACE.md says how an answer is packed. */
+/* The functions of the array library that a C program calls. docs/C-INTERFACE.md says how an answer is packed, and when each refusal is given.
+ *
+ * A pointer to a struct is not null. A slice is a pointer and a length: so many bytes, or records, can be read there, and written where the
+ * pointer is not const. Nobody else uses them during the call, and what is written overlaps nothing else that is lent. */
 #ifndef COPPICETUNE_H
 #define COPPICETUNE_H
 
@@ -8,6 +11,30 @@
 #ifdef __cplusplus
 extern "C" {
 #endif
+
+/* An open array. coppicetune_open fills it in, and coppicetune_report alters it. */
+struct coppicetune_state {
+    uint64_t cards;   /* N, 3 to 8 */
+    uint64_t stripes; /* S, 1 to 1,024 */
+    uint64_t block;   /* B, the bytes in a block: 16 to 512, a multiple of 16 */
+    uint64_t records; /* K, the request records: 1 to 8 */
+    uint64_t out;     /* the card that is out, or 255 for none */
+    uint64_t lost;    /* 0: the array is not lost */
+};
+
+/* A request record. A free one is all zero. */
+struct coppicetune_record {
+    uint64_t phase;  /* free, open or finished: 0, 1, 2 */
+    uint64_t write;  /* read or write: 0, 1 */
+    uint64_t stripe;
+    uint64_t mask;   /* bit i is unit i */
+    uint64_t graph;
+    uint64_t chosen; /* the card that was out when the graph was chosen, or 255 */
+    uint64_t done;   /* the done steps: bit k is step k */
+    uint64_t count;  /* the accepted steps since admission */
+};
+
+/* ---- by numbers */
 
 /* The card and the stripe of logical block `block`, in an array of so many cards and stripes.
  * Values: the card, the stripe. Refused by 1 (cards or stripes beyond their limits) or 5 (no such block). */
@@ -19,12 +46,45 @@ uint64_t coppicetune_place(uint64_t cards, uint64_t stripes, uint64_t block);
 uint64_t coppicetune_block_at(uint64_t cards, uint64_t stripes, uint64_t card, uint64_t stripe);
 
 /* Whether parity is right in every stripe of an array with nothing open. The state's six numbers: `out` is the card that is out, or 255 for
- * none; the array is lost if `lost` is not 0. `image` points to `image_len` bytes, which stay as they are and which nobody alters meanwhile.
- * Values: none where parity is right. Refused by 1 (a number of the state beyond its limits), 2 (the image is not cards * stripes * block
- * bytes), 4 (the array is lost), 12 (a card is out) or 13 (parity disagrees), the first that applies; 13 has the lowest stripe and the lowest
- * byte in it where parity disagrees. */
+ * none; the array is lost if `lost` is not 0.
+ * Values: none where parity is right. Refused by 1, 2, 4, 12 or 13; 13 has the lowest stripe and the lowest byte in it where parity disagrees. */
 uint64_t coppicetune_scan(uint64_t cards, uint64_t stripes, uint64_t block, uint64_t records, uint64_t out, uint64_t lost,
                           const uint8_t *image, size_t image_len);
+
+/* ---- the engine: the same state, table, work store and image go from call to call */
+
+/* Opens an array of so many cards, stripes, bytes in a block and records, with card `out` out, or 255 for none; with none out parity must be
+ * right. Every record is freed. What was in `state` does not matter: the new state is stored there, all zero if refused.
+ * Values: none. Refused by 1, 2 or 13; 13 has the lowest stripe and the lowest byte in it where parity disagrees. */
+uint64_t coppicetune_open(struct coppicetune_state *state, struct coppicetune_record *table, size_t table_len,
+                          const uint8_t *work, size_t work_len, const uint8_t *image, size_t image_len, uint64_t cards,
+                          uint64_t stripes, uint64_t block, uint64_t records, uint64_t out);
+
+/* Admits a request of the units in `mask` of a stripe: a read where `write` is 0, a write where it is any other number. A write's payload is
+ * its units, ascending; a read's is 0 bytes.
+ * Values: the record that it takes, the lowest free one. Refused by 1 to 9. */
+uint64_t coppicetune_admit(const struct coppicetune_state *state, struct coppicetune_record *table, size_t table_len,
+                           uint8_t *work, size_t work_len, const uint8_t *image, size_t image_len, uint64_t write,
+                           uint64_t stripe, uint64_t mask, const uint8_t *payload, size_t payload_len);
+
+/* Does a step of an open record; or, where the step's card is out, chooses the record's graph afresh.
+ * Values: 0 where the step is done, the new graph where one is chosen. Refused by 1 to 5, 10 or 11. */
+uint64_t coppicetune_step(const struct coppicetune_state *state, struct coppicetune_record *table, size_t table_len,
+                          uint8_t *work, size_t work_len, uint8_t *image, size_t image_len, uint64_t record, uint64_t step);
+
+/* Marks a card out, or the array lost where another card is out.
+ * Values: none. Refused by 1, 4, 5 or 12. */
+uint64_t coppicetune_report(struct coppicetune_state *state, uint64_t card);
+
+/* Collects a finished record, which is freed. A read's units go, ascending, to the front of the result buffer; bytes behind them stay.
+ * Values: the accepted steps since admission. Refused by 1 to 5, 10 or 7. */
+uint64_t coppicetune_collect(const struct coppicetune_state *state, struct coppicetune_record *table, size_t table_len,
+                             const uint8_t *work, size_t work_len, uint64_t record, uint8_t *result, size_t result_len);
+
+/* Whether parity is right in every stripe that no open request holds.
+ * Values: none where parity is right. Refused by 1 to 4, 12 or 13; 13 has the lowest stripe and the lowest byte in it where parity disagrees. */
+uint64_t coppicetune_check(const struct coppicetune_state *state, const struct coppicetune_record *table, size_t table_len,
+                           const uint8_t *image, size_t image_len);
 
 #ifdef __cplusplus
 }

@@ -1,7 +1,5 @@
 //! The library, through the functions of include/coppicetune.h; this is the one file that knows their arguments.
-use crate::calls::{Answer, State};
-#[cfg(feature = "engine")]
-use crate::calls::{Calls, Record};
+use crate::calls::{Answer, Calls, Record, State};
 
 extern "C" {
     fn coppicetune_place(cards: u64, stripes: u64, block: u64) -> u64;
@@ -16,27 +14,6 @@ extern "C" {
         image: *const u8,
         image_len: usize,
     ) -> u64;
-}
-
-pub fn place(cards: u64, stripes: u64, block: u64) -> Answer {
-    // Safe: the function takes any numbers and touches no memory of the caller's.
-    Answer::of(unsafe { coppicetune_place(cards, stripes, block) })
-}
-
-pub fn block_at(cards: u64, stripes: u64, card: u64, stripe: u64) -> Answer {
-    // Safe: as above.
-    Answer::of(unsafe { coppicetune_block_at(cards, stripes, card, stripe) })
-}
-
-pub fn scan(state: &State, image: &[u8]) -> Answer {
-    let State { cards, stripes, block, records, out, lost } = *state;
-    let (at, len) = (image.as_ptr(), image.len());
-    // Safe: the image is lent whole, for the time of the call.
-    Answer::of(unsafe { coppicetune_scan(cards, stripes, block, records, out, lost, at, len) })
-}
-
-#[cfg(feature = "engine")]
-extern "C" {
     fn coppicetune_open(
         state: *mut State,
         table: *mut Record,
@@ -96,12 +73,27 @@ extern "C" {
     ) -> u64;
 }
 
+pub fn place(cards: u64, stripes: u64, block: u64) -> Answer {
+    // Safe: the function takes any numbers and touches no memory of the caller's.
+    Answer::of(unsafe { coppicetune_place(cards, stripes, block) })
+}
+
+pub fn block_at(cards: u64, stripes: u64, card: u64, stripe: u64) -> Answer {
+    // Safe: as above.
+    Answer::of(unsafe { coppicetune_block_at(cards, stripes, card, stripe) })
+}
+
+pub fn scan(state: &State, image: &[u8]) -> Answer {
+    let State { cards, stripes, block, records, out, lost } = *state;
+    let (at, len) = (image.as_ptr(), image.len());
+    // Safe: the image is lent whole, for the time of the call.
+    Answer::of(unsafe { coppicetune_scan(cards, stripes, block, records, out, lost, at, len) })
+}
+
 /// All calls of the library.
-#[cfg(feature = "engine")]
 pub struct Library;
 
 // Each call below lends whole slices for its own time only, and the structs have C's layout.
-#[cfg(feature = "engine")]
 impl Calls for Library {
     fn place(&self, cards: u64, stripes: u64, block: u64) -> u64 {
         unsafe { coppicetune_place(cards, stripes, block) }

@@ -25,7 +25,6 @@ fn a_c_program_calls_each_function() {
     run("calls");
 }
 
-#[cfg(feature = "engine")]
 #[test]
 fn a_c_program_writes_through_a_failure() {
     run("engine");

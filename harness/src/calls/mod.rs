@@ -10,10 +10,7 @@ pub use crate::plain::{Record, State};
 pub use plain::Plain;
 
 /// The engine under test.
-#[cfg(feature = "engine")]
 pub use crate::recorder::Library as Tested;
-#[cfg(not(feature = "engine"))]
-pub use plain::Plain as Tested;
 
 /// An engine behind the C interface. Slices stand for a pointer and a length.
 #[allow(clippy::too_many_arguments)]
