@@ -38,9 +38,18 @@ unfoldable pub answersOf : {w : World} {a : Account} → History w a → List An
 answersOf (opened g out table work image ok) = []
 answersOf (next {w} h e p) = ifCall e (answerTo w e) (answersOf h)
 
--- two worlds that nobody can tell apart but by the bytes of the card that is out
+-- the same calls made of a world one after the other, with no decay between them: the world that they leave, and their answers
+unfoldable pub ran : World → List Event → World
+ran w [] = w
+ran w (e ∷ es) = play (ran w es) e .world
+
+unfoldable pub answered : World → List Event → List Answer
+answered w [] = []
+answered w (e ∷ es) = answerTo (ran w es) e ∷ answered w es
+
+-- two worlds that differ at most in the bytes of the card that is out
 pub record Alike (w v : World) : Type 0 where
-  pub same-state : w .state ≡ v .state
-  pub same-table : w .table ≡ v .table
-  pub same-work : w .work ≡ v .work
+  pub same-state : v .state ≡ w .state
+  pub same-table : v .table ≡ w .table
+  pub same-work : v .work ≡ w .work
   pub same-image : Decayed (w .state) (w .image) (v .image)

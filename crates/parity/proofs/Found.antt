@@ -7,14 +7,14 @@ use mathlib.Core.Path.{_≡_, refl, sym, ap, _∙_}
 use native.Mathlib.Omega.{arith}
 use borrow.Author.Tests.{eq-eqb, ne-eqb, eqb-true, lt-ltb, le-ltb}
 use lib.Dec.{ltb, eqb}
-use lib.ListN.{getD}
+use lib.ListN.{length, getD}
 use Rattle.terms.specs.Lists.{part}
 use Rattle.terms.specs.Reply.{Reply, accepted}
 use Rattle.terms.specs.Sets.{lowest}
 use Rattle.terms.proofs.Lists.{getD-part}
 use Rattle.terms.proofs.Sets.{allBelow-elim, lowest-is, lowest-none, xorTo-cong}
 use Rattle.block.specs.Blocks.{summed, zeros, allZero}
-use Rattle.block.proofs.Blocks.{getD-summed-zeros}
+use Rattle.block.proofs.Blocks.{length-summed, getD-summed-zeros}
 use Rattle.geometry.specs.Store.{cellAt}
 use Rattle.parity.specs.Parity.{cell, byteAt, parityByte, wrongByte, wrongStripe, rightParity, disagreement, looked}
 
@@ -66,6 +66,9 @@ module _ (N S B : ℕ) (image : List ℕ) where
     module _ (s : ℕ) (sum : List ℕ) (small : B ≤ 512) (is : sum ≡ summed N (cell S B image s) (zeros 512)) where
       at : (k : ℕ) → k < B → getD sum k 0 ≡ parityByte N S B image s k
       at k l = ap (λ (t : List ℕ). getD t k 0) is ∙ sum-byte s k small l
+
+      pub sum-length : 512 ≡ length sum
+      sum-length = sym (ap length is ∙ length-summed N (cell S B image s) (zeros 512))
 
       -- its bytes are zero
       pub sum-right : ((k : ℕ) → k < B → getD sum k 0 ≡ 0) → reports s ≡ false

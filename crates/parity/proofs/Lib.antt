@@ -3,3 +3,4 @@ pub mod Inside
 pub mod Passing
 pub mod Found
 pub mod Replies
+pub mod Small

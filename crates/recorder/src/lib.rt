@@ -1,12 +1,15 @@
-// The functions that a C program calls: numbers in, and one number out, packed as docs/C-INTERFACE.md says. No number traps.
+// The functions that a C program calls: numbers and bytes in, and one number out, packed as docs/C-INTERFACE.md says. No number traps.
 // Assumes nothing.
 ghost use mathlib.Core.Path.{_≡_};
 ghost use Prim.Native.Nat.{_<_, _^_};
 ghost use Rattle.geometry.specs.Answers.{placeReply, blockAtReply};
+ghost use Rattle.parity.specs.Scan.{idleScanReply};
 ghost use Rattle.recorder.specs.Packing.{packed};
 use geometry::Geometry;
 use geometry::Held;
 use geometry::Placed;
+use geometry::State;
+use parity::Scan;
 
 // An answer's number and values as one number.
 fn pack(number: u64, first: u64, second: u64) -> u64
@@ -43,5 +46,34 @@ pub extern "C" fn coppicetune_block_at(cards: u64, stripes: u64, card: u64, stri
         Held::Parity => pack(0, 1, 0),
         Held::Beyond => pack(1, 0, 0),
         Held::OutOfRange => pack(5, 0, 0),
+    }
+}
+
+// The scan of an array with nothing open: parity is right, or the lowest stripe and the lowest byte in it where it disagrees.
+#[no_mangle]
+pub extern "C" fn coppicetune_scan(
+    cards: u64,
+    stripes: u64,
+    block: u64,
+    records: u64,
+    out: u64,
+    lost: u64,
+    image: &[u8],
+) -> u64
+    ensures { λ r. ⌜ r ≡ packed (idleScanReply (record { cards = cards; stripes = stripes; block = block; records = records; out = out; lost = lost }) (now (image .entry))) ⌝ }
+{
+    let state = State {
+        cards,
+        stripes,
+        block,
+        records,
+        out,
+        lost,
+    };
+    let scan = parity::idle_scan(state, image);
+    match scan {
+        Scan::Right => pack(0, 0, 0),
+        Scan::Disagrees { stripe, byte } => pack(13, stripe, byte),
+        Scan::Refused(number) => pack(number, 0, 0),
     }
 }

@@ -2,21 +2,20 @@
 -- graph 4 and nothing is written yet.
 -- Assumes nothing.
 use Prim.Native.Nat.{ℕ, _+_, _≤_, _<_}
-use mathlib.Core.Bool.{Bool, true, false}
+use mathlib.Core.Bool.{true, false}
 use mathlib.Core.Logic.{_⊎_, inl, inr}
-use mathlib.Core.Path.{_≡_, refl, sym, ap, _∙_}
-use native.Mathlib.Omega.{arith}
+use mathlib.Core.Path.{_≡_, sym, _∙_}
 use Rattle.terms.specs.Sets.{bit}
 use Rattle.terms.proofs.Rows.{true≢false, truth}
 use Rattle.graph.specs.Choice.{choose}
-use Rattle.graph.specs.Steps.{Step, rd, xr, wr, reads, writes, member, unmasked}
+use Rattle.graph.specs.Steps.{Step, reads, member, unmasked}
 use Rattle.stripe.specs.Blocks.{On, by-read, by-write}
 use Rattle.stripe.specs.Invariant.{Proper}
 use Rattle.stripe.specs.Request.{Request}
 use Rattle.stripe.proofs.Chosen.{chosen, row-of}
 use Rattle.stripe.proofs.Done.{sum-after, unread-none-written}
 use Rattle.stripe.proofs.Places.{reads-not-missing, writes-not-missing, writes-inside, unmasked-read, small-missing}
-use Rattle.stripe.proofs.Readied.{Kind, a-read, a-sum, a-write, Readied}
+use Rattle.stripe.proofs.Readied.{Kind, a-read, a-write, Readied}
 
 -- where graph 3 is chosen afresh: the step reads X by graph 4, and nothing is summed or written
 pub record OntoSmall (n x : ℕ) (q : Request) : Type 0 where

@@ -1,6 +1,6 @@
 -- The table of document 01, "Choosing a graph", as evidence: which row chose the graph, and what its tests tell. Proofs go by these rows.
 -- Assumes nothing.
-use Prim.Native.Nat.{ℕ, _-_, _*_, _^_, _≤_, _<_}
+use Prim.Native.Nat.{ℕ, _-_, _*_, _^_, _<_}
 use mathlib.Core.Bool.{Bool, true, false, cond, not}
 use mathlib.Core.Path.{_≡_, refl, ap}
 use native.Mathlib.Omega.{arith}

@@ -6,12 +6,12 @@ use mathlib.Core.Logic.{_⊎_, inl, inr}
 use mathlib.Core.Path.{_≡_, refl, sym, ap, _∙_}
 use native.Mathlib.Omega.{arith}
 use lib.Dec.{eqb}
-use borrow.Author.Tests.{eqb-true, eqb-false, ne-eqb}
+use borrow.Author.Tests.{eqb-true, eqb-false}
 use Rattle.terms.specs.Sets.{bit}
 use Rattle.terms.proofs.Bits.{bit-none, bit-add-same, bit-add-other}
 use Rattle.terms.proofs.Rows.{true≢false, and-left, truth}
 use Rattle.graph.specs.Choice.{choose}
-use Rattle.graph.specs.Order.{after, ready, closed, complete}
+use Rattle.graph.specs.Order.{after, ready, complete}
 use Rattle.graph.specs.Steps.{Step, stepOf, stepNumbers, byGraph, masked, unmasked, reads, member}
 use Rattle.graph.proofs.Laws.{ready-elim, member-below, closed-elim, closed-none, closed-after, incomplete}
 use Rattle.stripe.specs.Blocks.{On}

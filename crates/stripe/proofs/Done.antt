@@ -1,29 +1,21 @@
 -- What the done steps of a request tell, since each was done after all that must come before it.
 -- Assumes nothing.
-use Prim.Native.Nat.{ℕ, _+_, _≤_, _<_}
-use mathlib.Core.Bool.{Bool, true, false, cond}
+use Prim.Native.Nat.{ℕ, _+_, _≤_}
+use mathlib.Core.Bool.{Bool, true, false}
 use mathlib.Core.Logic.{_⊎_, inl, inr}
-use mathlib.Core.Path.{_≡_, refl, sym, ap, _∙_}
+use mathlib.Core.Path.{_≡_, refl, sym, _∙_}
 use native.Mathlib.Omega.{arith}
 use lib.Dec.{eqb}
-use borrow.Author.Tests.{eqb-true, eq-eqb}
+use borrow.Author.Tests.{eqb-true, eqb-false}
 use Rattle.terms.specs.Sets.{bit}
 use Rattle.terms.proofs.Rows.{true≢false, truth}
-use Rattle.graph.specs.Order.{anyRead, readOf, isSum, before, cleared, closed}
-use Rattle.graph.specs.Steps.{Step, rd, xr, wr, stepOf, byGraph, reads, sums, writes, member, unmasked}
+use Rattle.graph.specs.Order.{anyRead, before, cleared, closed}
+use Rattle.graph.specs.Steps.{rd, xr, wr, reads, sums, writes, member, unmasked}
+use Rattle.graph.proofs.Guard.{all-reads-first, own-read-first, sum-first}
 use Rattle.graph.proofs.Laws.{cleared-elim, closed-elim}
 use Rattle.graph.proofs.Numbers.{stepOf-read, stepOf-sum, stepOf-write}
 use Rattle.stripe.proofs.Chosen.{Chosen}
 use Rattle.stripe.proofs.Places.{reads-what, writes-what, writes-inside}
-
--- in 4 a unit's write needs every read, in 3 that unit's
-all-before : (n mask x p r : ℕ) → eqb p n ≡ false → reads n 4 mask x r ≡ true → before n 4 mask x (wr p) (rd r) ≡ true
-unfolding before byGraph anyRead
-all-before n mask x p r e h = rw e h
-
-own-before : (n mask x p : ℕ) → eqb p n ≡ false → before n 3 mask x (wr p) (rd p) ≡ true
-unfolding before byGraph readOf
-own-before n mask x p e = rw e (eq-eqb p p refl)
 
 module _ (n g mask x done : ℕ) (order : closed n g mask x done ≡ true) where
   -- a done step is in the graph
@@ -53,10 +45,9 @@ module _ (n g mask x done : ℕ) (order : closed n g mask x done ≡ true) where
 
   -- parity's write comes after the exclusive or
   pub parity-after : (p : ℕ) → p ≡ n → bit (n + 2 + p) done ≡ true → bit (n + 1) done ≡ true
-  unfolding before isSum
   parity-after p e b =
       cleared-elim n g mask x done (wr p) (n + 1) (write-cleared p (omega arith) b) (omega arith)
-      (rw (stepOf-sum n, eq-eqb p n e))
+      (rw (stepOf-sum n, e) (sum-first n g mask x))
 
   -- a write comes after the reads that graphs 3 and 4 ask before it
   pub write-after : (p r : ℕ) → p ≤ n → r ≤ n → bit (n + 2 + p) done ≡ true → reads n g mask x r ≡ true
@@ -64,8 +55,8 @@ module _ (n g mask x done : ℕ) (order : closed n g mask x done ≡ true) where
   write-after p r lp lr b h o = go (truth (eqb p n))
     where
       unit : eqb p n ≡ false → (g ≡ 4) ⊎ ((g ≡ 3) × (r ≡ p)) → before n g mask x (wr p) (rd r) ≡ true
-      unit e (inl f) = rw f (all-before n mask x p r e (rw f at h))
-      unit e (inr f) = rw (f .0, f .1) (own-before n mask x p e)
+      unit e (inl f) = rw f (all-reads-first n mask x p r (eqb-false p n e) (rw f at h))
+      unit e (inr f) = rw (f .0, f .1) (own-read-first n mask x p (eqb-false p n e))
 
       go : (eqb p n ≡ true) ⊎ (eqb p n ≡ false) → bit r done ≡ true
       go (inl e) = sum-after (parity-after p (eqb-true p n e) b) r lr h

@@ -1,7 +1,7 @@
 -- The start and the end of a request: what its blocks hold at admission, and that its last step leaves the new row.
 -- Assumes nothing.
 use Prim.Native.Nat.{ℕ, suc, _+_, _≤_, _<_}
-use mathlib.Core.Bool.{Bool, true, false, cond}
+use mathlib.Core.Bool.{Bool, true, false}
 use mathlib.Core.Logic.{_⊎_, inl, inr}
 use mathlib.Core.Path.{_≡_, refl, sym, ap, _∙_}
 use native.Mathlib.Omega.{arith}
@@ -10,7 +10,7 @@ use borrow.Author.Tests.{eqb-false}
 use Rattle.terms.proofs.Bits.{bit-none}
 use Rattle.terms.proofs.Rows.{true≢false, truth}
 use Rattle.graph.specs.Order.{complete}
-use Rattle.graph.specs.Steps.{rd, xr, wr, numberOf, byGraph, masked, unmasked, reads, sums, writes, member}
+use Rattle.graph.specs.Steps.{wr, numberOf, byGraph, masked, unmasked, reads, sums, writes, member}
 use Rattle.graph.proofs.Laws.{complete-elim}
 use Rattle.graph.proofs.Numbers.{stepOf-read, stepOf-sum, stepOf-write}
 use Rattle.stripe.specs.Blocks.{Blocks}

@@ -1,25 +1,24 @@
 -- What happens to a stripe keeps the invariant of its blocks: a done step, a fresh choice, a failure, decay of what is missing; the start
 -- and the end of a request.
 -- Assumes nothing.
-use Prim.Native.Nat.{ℕ, suc, _+_, _≤_, _<_}
-use mathlib.Core.Bool.{Bool, true, false, cond}
+use Prim.Native.Nat.{ℕ, _+_, _≤_, _<_}
+use mathlib.Core.Bool.{true, false}
 use mathlib.Core.Logic.{_⊎_, inl, inr}
-use mathlib.Core.Path.{_≡_, refl, sym, ap, subst, _∙_}
+use mathlib.Core.Path.{_≡_, sym, ap, subst, _∙_}
 use native.Mathlib.Omega.{arith}
-use lib.Dec.{eqb}
-use borrow.Author.Tests.{eqb-true, eqb-false, eq-eqb, ne-eqb}
+use borrow.Author.Tests.{eq-eqb}
 use Rattle.terms.specs.Sets.{bit}
 use Rattle.terms.proofs.Bits.{bit-none}
-use Rattle.terms.proofs.Rows.{true≢false, truth}
-use Rattle.graph.specs.Order.{anyRead, isSum, before, cleared, ready, closed, complete}
-use Rattle.graph.specs.Steps.{Step, rd, xr, wr, nil, stepOf, numberOf, reads, sums, writes, member, masked, unmasked}
+use Rattle.terms.proofs.Rows.{true≢false}
+use Rattle.graph.specs.Order.{anyRead, isSum, before, cleared, ready}
+use Rattle.graph.specs.Steps.{Step, rd, xr, wr, stepOf, numberOf, reads, writes, member, masked}
 use Rattle.graph.proofs.Laws.{cleared-elim}
 use Rattle.graph.proofs.Numbers.{stepOf-read, stepOf-sum}
-use Rattle.stripe.specs.Blocks.{Blocks, On, by-read, by-write, performed}
-use Rattle.stripe.specs.Group.{Group, sumTo}
+use Rattle.stripe.specs.Blocks.{Blocks, On, by-read, performed}
+use Rattle.stripe.specs.Group.{Group}
 use Rattle.stripe.specs.Invariant.{Proper, Faithful, Idle, Untouched, isDone}
-use Rattle.stripe.specs.Request.{Request, advanced, begun, chosenAfresh}
-use Rattle.stripe.proofs.Afresh.{OntoSmall, none-missed, onto-small}
+use Rattle.stripe.specs.Request.{Request, advanced, chosenAfresh}
+use Rattle.stripe.proofs.Afresh.{none-missed, onto-small}
 use Rattle.stripe.proofs.Chosen.{row-of}
 use Rattle.stripe.proofs.Readied.{Kind, a-read, a-sum, a-write, Readied, readied}
 use Rattle.stripe.proofs.Places.{writes-what}

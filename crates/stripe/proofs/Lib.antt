@@ -1,4 +1,5 @@
 -- Why a stripe loses nothing, by subject.
+pub mod Acts
 pub mod Sums
 pub mod Chosen
 pub mod Tally
@@ -13,5 +14,11 @@ pub mod Kept
 pub mod Ends
 pub mod Sizes
 pub mod Counts
+pub mod Opens
+pub mod Alike
+pub mod Heart
+pub mod Runs
 pub mod Bytes
+pub mod Computing
+pub mod Reached
 pub mod NeverAgain

@@ -2,26 +2,16 @@
 -- requests lose none. All computed, bytes for blocks.
 -- Assumes nothing.
 use Prim.Native.Nat.{ℕ, suc}
-use mathlib.Core.Bool.{Bool, true, false, cond, _&&_}
+use mathlib.Core.Bool.{Bool, true, false, _&&_}
 use mathlib.Core.List.{List, [], _∷_}
 use mathlib.Core.Path.{_≡_, refl}
-use lib.Count.{ones}
 use lib.ListN.{getD}
-use Rattle.terms.specs.Reply.{firstRow}
-use Rattle.terms.specs.Sets.{bit, allBelow}
-use Rattle.graph.specs.Choice.{unitOut, unitOutIn, allUnits, chooseRead, chooseWrite, choose}
-use Rattle.graph.specs.Order.{anyRead, readOf, isSum, before, cleared, ready, complete}
-use Rattle.graph.specs.Steps.{byGraph, masked, unmasked, reads, sums, writes, member, stepOf}
-use Rattle.graph.specs.Sums.{takesNew, sumsToRead}
-use Rattle.stripe.specs.Blocks.{Blocks, changed, total, performed}
+use Rattle.graph.specs.Steps.{stepOf}
+use Rattle.stripe.specs.Blocks.{Blocks, performed}
 use Rattle.stripe.specs.Group.{sumTo, others}
-use Rattle.stripe.specs.Request.{Request, begun, advanced, chosenAfresh}
+use Rattle.stripe.specs.Request.{Request, readyAt, finished, begun, advanced, chosenAfresh}
 use Rattle.stripe.proofs.Bytes.{bytes}
-
--- all that the runs compute with
-computing : Unit {0}
-unfolding firstRow bit allBelow ones unitOut unitOutIn allUnits chooseRead chooseWrite choose anyRead readOf isSum before cleared ready complete byGraph masked unmasked reads sums writes member stepOf takesNew sumsToRead changed total performed sumTo others begun advanced chosenAfresh
-computing = tt
+use Rattle.stripe.proofs.Computing.{computing}
 
 -- the blocks after these steps of a request, one after the other
 abbrev blocksAfter : ℕ → Request → List ℕ → Blocks ℕ → Blocks ℕ
@@ -35,13 +25,11 @@ requestAfter q (k ∷ ks) = requestAfter (advanced q k) ks
 
 abbrev inTurn : ℕ → Request → List ℕ → Bool
 inTurn n q [] = true
-inTurn n q (k ∷ ks) = ready n (q .graph) (q .mask) (q .missed) (q .done) k && inTurn n (advanced q k) ks
+inTurn n q (k ∷ ks) = readyAt n q k && inTurn n (advanced q k) ks
 
 -- the steps bring the request to its end, each in its turn
 abbrev Ends : ℕ → Request → List ℕ → Type 0
-Ends n q ks =
-    let r = requestAfter q ks in
-    (inTurn n q ks ≡ true) × (complete n (r .graph) (r .mask) (r .missed) (r .done) ≡ true)
+Ends n q ks = (inTurn n q ks ≡ true) × (finished n (requestAfter q ks) ≡ true)
 
 -- what position x comes back as: the exclusive or of the others
 abbrev comesBack : ℕ → ℕ → Blocks ℕ → ℕ
@@ -108,7 +96,7 @@ abbrev atHalf : Blocks ℕ
 atHalf =
     blocksAfter 5 small halfWritten (blocks (0x11 ∷ 0x22 ∷ 0x44 ∷ 0x08 ∷ 0x80 ∷ 0xff ∷ []) (0x12 ∷ 0x33 ∷ []))
 
-pub half-way : (small .graph ≡ 3) × (inTurn 5 small halfWritten ≡ true) × (ready 5 (half .graph) 3 6 (half .done) 8 ≡ true)
+pub half-way : (small .graph ≡ 3) × (inTurn 5 small halfWritten ≡ true) × (readyAt 5 half 8 ≡ true)
 unfolding computing
 half-way = (refl, refl, refl)
 
@@ -154,7 +142,7 @@ early-write-loses = (refl, refl)
 abbrev overOld : Blocks ℕ
 overOld = blocksAfter 3 (chosenAfresh 3 reconstruct 2) (0 ∷ 1 ∷ 3 ∷ 4 ∷ 5 ∷ 6 ∷ 8 ∷ []) (blocks atFirst (0x12 ∷ 0x33 ∷ []))
 
-pub late-write-keeps : (reconstruct .graph ≡ 4) × (ready 3 4 3 4 0 5 ≡ false) × (ready 3 4 3 4 0 2 ≡ true)
+pub late-write-keeps : (reconstruct .graph ≡ 4) × (readyAt 3 reconstruct 5 ≡ false) × (readyAt 3 reconstruct 2 ≡ true)
     × (chosenAfresh 3 reconstruct 2 .graph ≡ 3) × Ends 3 (chosenAfresh 3 reconstruct 2) (0 ∷ 1 ∷ 3 ∷ 4 ∷ 5 ∷ 6 ∷ 8 ∷ [])
     × (overOld .cell 3 ≡ 0x65) × (comesBack 3 2 overOld ≡ 0x44)
 unfolding computing

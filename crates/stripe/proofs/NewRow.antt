@@ -1,15 +1,15 @@
 -- The row after a request: it is a row, and differs from the old one at the new units and parity of a write alone.
 -- Assumes nothing.
-use Prim.Native.Nat.{ℕ, suc, _<_}
-use mathlib.Core.Bool.{Bool, true, false, cond, not}
-use mathlib.Core.Path.{_≡_, refl, sym, ap, _∙_}
+use Prim.Native.Nat.{ℕ, _<_}
+use mathlib.Core.Bool.{Bool, true, false, not}
+use mathlib.Core.Path.{_≡_, refl, sym, _∙_}
 use native.Mathlib.Omega.{arith}
-use lib.Dec.{ltb, eqb}
+use lib.Dec.{ltb}
 use borrow.Author.Tests.{eq-eqb, ne-eqb, not-true}
 use Rattle.terms.specs.Sets.{bit}
-use Rattle.terms.proofs.Rows.{true≢false, and-right}
+use Rattle.terms.proofs.Rows.{and-right}
 use Rattle.graph.specs.Steps.{masked, unmasked}
-use Rattle.stripe.specs.Group.{Group, sumTo}
+use Rattle.stripe.specs.Group.{Group}
 use Rattle.stripe.specs.Invariant.{IsRow, unitsAfter, rowAfter}
 use Rattle.stripe.proofs.Places.{masked-below, unmasked-below}
 use Rattle.stripe.proofs.Sums.{sum-cong, parity-row}

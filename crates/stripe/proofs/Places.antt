@@ -9,8 +9,8 @@ use lib.Dec.{leb, ltb, eqb}
 use borrow.Author.Tests.{ltb-true, ltb-false, eqb-true, eqb-false, eq-eqb, ne-eqb, le-leb, not-true}
 use Rattle.terms.specs.Sets.{bit}
 use Rattle.terms.proofs.Bits.{bit-full}
-use Rattle.terms.proofs.Rows.{true≢false, and-left, and-right, and-both, or-cases}
-use Rattle.graph.specs.Steps.{byGraph, masked, unmasked, reads, sums, writes}
+use Rattle.terms.proofs.Rows.{true≢false, and-left, and-right, or-cases}
+use Rattle.graph.specs.Steps.{byGraph, masked, unmasked, reads, writes}
 use Rattle.stripe.proofs.Chosen.{Chosen, degraded-read, plain-read, parity-failed, large-write, reconstruct-out, small-out, small-none, reconstruct-none}
 
 -- position p of a stripe of n units

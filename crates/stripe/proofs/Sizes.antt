@@ -1,6 +1,6 @@
 -- How many steps a graph has: at most n+2 where none is missing; at most n+1 where a position is, but for graph 3.
 -- Assumes nothing.
-use Prim.Native.Nat.{ℕ, suc, _+_, _*_, _^_, _≤_, _<_}
+use Prim.Native.Nat.{ℕ, _+_, _*_, _^_, _≤_, _<_}
 use mathlib.Core.Bool.{Bool, true, false, cond, not, _||_, or-false}
 use mathlib.Core.Logic.{_⊎_, inl, inr}
 use mathlib.Core.Path.{_≡_, refl, sym, ap, ap₂, _∙_}
@@ -10,12 +10,12 @@ use lib.Dec.{ltb, eqb}
 use borrow.Author.Tests.{eqb-true, eqb-false, ne-eqb}
 use Rattle.terms.specs.Sets.{bit}
 use Rattle.terms.proofs.Rows.{true≢false, and-left, and-right, truth}
-use Rattle.graph.specs.Steps.{Step, rd, xr, wr, stepOf, stepNumbers, byGraph, masked, unmasked, reads, sums, writes, member}
+use Rattle.graph.specs.Steps.{stepOf, stepNumbers, byGraph, masked, unmasked, reads, sums, writes, member}
 use Rattle.graph.proofs.Numbers.{stepOf-read, stepOf-sum, stepOf-write}
 use Rattle.stripe.specs.Invariant.{tally}
 use Rattle.stripe.proofs.Chosen.{Chosen, degraded-read, plain-read, parity-failed, large-write, reconstruct-out, small-out, small-none, reconstruct-none}
 use Rattle.stripe.proofs.Places.{unmasked-below, reads-what, writes-what, writes-inside, reads-not-missing, writes-not-missing}
-use Rattle.stripe.proofs.Tally.{unit-bound, tally-cong, tally-next, tally-le, tally-none, tally-bound, tally-lacks, tally-split, tally-disjoint, tally-ones}
+use Rattle.stripe.proofs.Tally.{unit-bound, tally-cong, tally-next, tally-le, tally-bound, tally-lacks, tally-split, tally-disjoint, tally-ones}
 
 -- the step numbers are the reads of 0 to n, the exclusive or, and the writes of 0 to n
 pub tally-steps : (n : ℕ) (f : ℕ → Bool)

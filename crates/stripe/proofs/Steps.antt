@@ -1,7 +1,7 @@
 -- A done step keeps the invariant of the blocks: a read holds the old row, the exclusive or X or the new parity, a write the new row.
 -- Assumes nothing.
-use Prim.Native.Nat.{ℕ, suc, _+_, _≤_, _<_}
-use mathlib.Core.Bool.{Bool, true, false, cond}
+use Prim.Native.Nat.{ℕ, _+_, _≤_}
+use mathlib.Core.Bool.{true, false}
 use mathlib.Core.Logic.{_⊎_, inl, inr}
 use mathlib.Core.Path.{_≡_, refl, sym, ap, _∙_}
 use native.Mathlib.Omega.{arith}
@@ -10,10 +10,10 @@ use borrow.Author.Tests.{eqb-true, eqb-false, eq-eqb, ne-eqb}
 use Rattle.terms.specs.Sets.{bit}
 use Rattle.terms.proofs.Bits.{bit-add-same, bit-add-other}
 use Rattle.terms.proofs.Rows.{true≢false, truth}
-use Rattle.graph.specs.Steps.{Step, rd, xr, wr, nil, numberOf, reads, sums, writes, masked, unmasked}
-use Rattle.graph.specs.Sums.{takesNew, sumsToRead}
+use Rattle.graph.specs.Steps.{Step, rd, xr, wr, numberOf, reads, sums, writes, unmasked}
+use Rattle.graph.specs.Sums.{sumsToRead}
 use Rattle.stripe.specs.Blocks.{Blocks, changed, total, performed}
-use Rattle.stripe.specs.Group.{Group, sumTo}
+use Rattle.stripe.specs.Group.{Group}
 use Rattle.stripe.specs.Invariant.{Proper, Faithful, Untouched, isDone}
 use Rattle.stripe.specs.Request.{Request, advanced}
 use Rattle.stripe.proofs.Chosen.{row-of}

@@ -4,15 +4,14 @@ use Prim.Native.Nat.{ℕ, zero, suc, _+_, _/_, _%_, _^_, _≤_, _<_}
 use mathlib.Core.Bool.{Bool, true, false, cond, _||_}
 use mathlib.Core.Logic.{_⊎_, inl, inr}
 use mathlib.Core.Path.{_≡_, refl, sym, ap, ap₂, _∙_}
-use native.Mathlib.Nat.{add-zero, add-suc, add-assoc, not-suc-le-zero}
+use native.Mathlib.Nat.{add-zero, add-suc, not-suc-le-zero}
 use native.Mathlib.Numerals.{add-one}
 use native.Mathlib.Omega.{arith}
 use lib.Count.{ones, ones-step}
 use lib.Dec.{eqb}
-use borrow.Author.Tests.{eqb-true, eqb-false, eq-eqb, ne-eqb}
+use borrow.Author.Tests.{eqb-true, eqb-false}
 use Rattle.terms.specs.Sets.{bit}
 use Rattle.terms.proofs.Bits.{bit-zero, bit-suc}
-use Rattle.terms.proofs.Rows.{true≢false}
 use Rattle.terms.proofs.Sets.{below-suc}
 use Rattle.stripe.specs.Invariant.{tally}
 

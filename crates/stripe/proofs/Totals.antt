@@ -1,13 +1,13 @@
 -- The exclusive or of each graph, once its reads hold the old row R and the new units the new row R′: X of the old row in graph 2, parity
 -- of the new row in graphs 3, 4 and 5.
 -- Assumes nothing.
-use Prim.Native.Nat.{ℕ, suc, _-_, _^_, _≤_, _<_}
-use mathlib.Core.Bool.{Bool, true, false, cond, not, _&&_, _||_}
+use Prim.Native.Nat.{ℕ, suc, _-_, _^_, _≤_}
+use mathlib.Core.Bool.{Bool, true, false, cond, not}
 use mathlib.Core.Logic.{_⊎_, inl, inr, ⊎-map}
 use mathlib.Core.Path.{_≡_, refl, sym, ap, ap₂, _∙_}
 use native.Mathlib.Omega.{arith}
-use lib.Dec.{leb, eqb}
-use borrow.Author.Tests.{eqb-true, eqb-false, eq-eqb, ne-eqb, le-leb}
+use lib.Dec.{eqb}
+use borrow.Author.Tests.{eqb-true, ne-eqb, le-leb}
 use Rattle.terms.proofs.Rows.{true≢false}
 use Rattle.graph.specs.Steps.{byGraph, masked, unmasked, reads, sums}
 use Rattle.graph.specs.Sums.{takesNew}
@@ -15,7 +15,7 @@ use Rattle.stripe.specs.Group.{Group, sumTo, others}
 use Rattle.stripe.specs.Invariant.{IsRow}
 use Rattle.stripe.proofs.Chosen.{Chosen, degraded-read, plain-read, parity-failed, large-write, reconstruct-out, small-out, small-none, reconstruct-none}
 use Rattle.stripe.proofs.Places.{Place, at-parity, at-masked, at-unmasked, place, masked-below, unmasked-below, masked-not, all-masked}
-use Rattle.stripe.proofs.Sums.{nought-add, sum-cong, sum-nought, sum-add, row-others}
+use Rattle.stripe.proofs.Sums.{nought-add, sum-cong, sum-add, row-others}
 
 -- the exclusive or as a sum of blocks: of the read blocks and the new units that it takes
 abbrev pub summed : (G : Group) → ℕ → ℕ → ℕ → ℕ → (ℕ → G .carrier) → (ℕ → G .carrier) → G .carrier

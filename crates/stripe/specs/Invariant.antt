@@ -2,14 +2,14 @@
 -- A row is a function on the positions 0 to n whose whole sum is nothing, so parity is one more position.
 -- Assumes nothing.
 use Prim.Native.Nat.{ℕ, suc, _+_, _*_, _≤_, _<_, _^_}
-use mathlib.Core.Bool.{Bool, true, false, cond, not, _&&_}
+use mathlib.Core.Bool.{Bool, true, false, cond}
 use mathlib.Core.Path.{_≡_}
 use mathlib.Core.Logic.{_⊎_}
 use lib.Dec.{eqb}
 use Rattle.terms.specs.Sets.{bit}
 use Rattle.graph.specs.Choice.{choose}
 use Rattle.graph.specs.Order.{closed}
-use Rattle.graph.specs.Steps.{Step, rd, xr, wr, nil, stepOf, numberOf, stepNumbers, member, masked, unmasked}
+use Rattle.graph.specs.Steps.{Step, rd, xr, wr, stepOf, numberOf, stepNumbers, member, masked, unmasked}
 use Rattle.stripe.specs.Blocks.{Blocks}
 use Rattle.stripe.specs.Group.{Group, sumTo}
 use Rattle.stripe.specs.Request.{Request}

@@ -1,9 +1,7 @@
 -- `parity::cell` meets its contract: the block lies inside the image.
 -- Assumes nothing.
-use Prim.Native.Nat.{ℕ, _+_, _*_, _-_}
-use mathlib.Core.Path.{_≡_, ap}
+use native.Mathlib.Nat.{add-sub-cancel-left}
 use native.Mathlib.Omega.{arith}
-use lib.ListN.{take, drop}
 use Rattle.terms.specs.Lists.{part}
 use Rattle.geometry.specs.Store.{cellAt}
 use Rattle.parity.specs.Parity.{cell}
@@ -30,15 +28,11 @@ part-result-start : tie.Need-part-result-start
 part-result-start c = omega arith
 
 part-result-end : tie.Need-part-result-end
-part-result-end c = cell-ends (c .pre .0) (c .args .stripe) (c .args .card) (c .pre .1) (c .pre .2)
+part-result-end c = omega (arith, cell-ends (c .pre .0) (c .args .stripe) (c .args .card) (c .pre .1) (c .pre .2))
 
 returns : tie.Need-returns
 unfolding cell part cellAt
-returns c =
-    let args = c .before .args in
-    let a : ℕ = (args .card * args .stripes + args .stripe) * args .size in
-    let e : a + args .size - a ≡ args .size = omega arith in
-    ap (λ (n : ℕ). take n (drop a (args .image .now))) e
+returns c = rw add-sub-cancel-left
 
 pub cell-spec : {M : Type 1} → statement M
 cell-spec =

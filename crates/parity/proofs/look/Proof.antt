@@ -3,18 +3,16 @@
 -- Assumes nothing.
 use Prim.Native.Nat.{ℕ, _-_, _≤_, _<_}
 use mathlib.Core.Bool.{false}
-use mathlib.Core.Path.{_≡_, sym, ap, _∙_}
+use mathlib.Core.Path.{_≡_, sym, _∙_}
 use native.Mathlib.Omega.{arith}
 use borrow.Author.Count.{below-none, below-more}
 use borrow.Author.Needs.{needs}
 use Rattle.geometry.proofs.Flags.{fails, holds}
 use mathlib.Core.Logic.{⊎-elim}
-use lib.ListN.{length, getD}
-use Rattle.block.specs.Blocks.{zeros}
-use Rattle.block.proofs.Blocks.{length-summed}
-use Rattle.parity.specs.Parity.{cell, wrongByte, passes}
+use lib.ListN.{getD}
+use Rattle.parity.specs.Parity.{wrongByte, passes}
 use Rattle.parity.specs.Scan.{reply}
-use Rattle.parity.proofs.Found.{reports, reports-passed, sum-right, sum-clear, sum-wrong, sum-wrong-byte, looked-right, looked-wrong}
+use Rattle.parity.proofs.Found.{reports, reports-passed, sum-length, sum-right, sum-clear, sum-wrong, sum-wrong-byte, looked-right, looked-wrong}
 use Rattle.parity.proofs.look.Statement.{statement}
 use Rattle.parity.proofs.look.Tie as tie
 
@@ -42,9 +40,11 @@ add-cards-requires c κs = search needs
 
 slice-aggregate-all-zero : tie.Need-slice-aggregate-all-zero Inv-loop μ-loop Inv-scan μ-scan
 slice-aggregate-all-zero c =
-    let args = c .before .before .before .before .before .before .before .before .args in
+    let start = c .before .before .before .before .before .before .before .before in
+    let args = start .args in
     let s = c .before .before .before .before .before .before .scan .stripe in
-    sym (ap length (c .before .add-cards .ensures) ∙ length-summed (args .cards) (cell (args .stripes) (args .size) (args .image .now) s) (zeros 512))
+    sum-length (args .cards) (args .stripes) (args .size) (args .image .now) (passes (args .skip)) s (c .before .add-cards .last .0) (start .pre .block)
+    (c .before .add-cards .ensures)
 
 all-zero-requires : tie.Need-all-zero-requires Inv-loop μ-loop Inv-scan μ-scan
 all-zero-requires c κs = search needs
