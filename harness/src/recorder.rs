@@ -1,9 +1,11 @@
 //! The proved functions, as `include/coppicetune.h` declares them, with their answers taken apart as docs/C-INTERFACE.md says.
+use crate::plain::scan::State;
 use crate::plain::Reply;
 
 extern "C" {
     fn coppicetune_place(cards: u64, stripes: u64, block: u64) -> u64;
     fn coppicetune_block_at(cards: u64, stripes: u64, card: u64, stripe: u64) -> u64;
+    fn coppicetune_scan(cards: u64, stripes: u64, block: u64, records: u64, out: u64, lost: u64, image: *const u8, image_len: usize) -> u64;
 }
 
 /// number + first value · 2^16 + second value · 2^32
@@ -19,4 +21,10 @@ pub fn place(cards: u64, stripes: u64, block: u64) -> Reply {
 pub fn block_at(cards: u64, stripes: u64, card: u64, stripe: u64) -> Reply {
     // Safe: as above.
     unpacked(unsafe { coppicetune_block_at(cards, stripes, card, stripe) })
+}
+
+pub fn scan(state: &State, image: &[u8]) -> Reply {
+    let s = state;
+    // Safe: the function reads the bytes that the slice lends, and no others.
+    unpacked(unsafe { coppicetune_scan(s.cards, s.stripes, s.block, s.records, s.out, s.lost, image.as_ptr(), image.len()) })
 }

@@ -9,4 +9,9 @@ pub mod Units
 pub mod Adding
 pub mod Performed
 pub mod Within
+pub mod Chains
+pub mod Accepted
+pub mod Handed
+pub mod Lending
+pub mod Own
 pub mod Kept

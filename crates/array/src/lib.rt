@@ -5,14 +5,14 @@ pub use admits::admit;
 pub use collects::collect;
 pub use opens::open;
 pub use scans::scan;
-pub use steps::step;
+pub use stepping::step;
 
-pub mod answers;
 mod admits;
+pub mod answers;
 mod collects;
 mod opens;
 mod performs;
 mod refusals;
 mod scans;
-mod steps;
+mod stepping;
 mod sums;

@@ -2,3 +2,7 @@
 pub mod Same
 pub mod Marks
 pub mod Zero
+pub mod Loops
+pub mod Clashes
+pub mod Eight
+pub mod Held

@@ -6,6 +6,7 @@ pub use sound::legal_mask;
 
 mod life;
 mod sound;
+mod tables;
 
 // A request record. A free one is all zero.
 #[repr(C)]

@@ -3,7 +3,7 @@ ghost use mathlib.Core.Bool.{Bool, cond, not, _&&_};
 ghost use mathlib.Core.Path.{_≡_};
 ghost use Prim.Native.Nat.{_+_, _*_, _≤_};
 ghost use lib.Dec.{leb, eqb};
-ghost use Rattle.record.specs.Asked.{soundRecordIn};
+ghost use Rattle.record.specs.Asked.{soundRecordIn, heldStripe};
 ghost use Rattle.record.specs.Sound.{allZero, legalMask, legalRecord, legalChosen, clash, holds};
 use crate::Record;
 use crate::life::units;
@@ -140,5 +140,14 @@ impl Record {
             return false;
         }
         self.stripe == stripe
+    }
+    // The stripe that the record holds, or a number that is no stripe's.
+    pub(crate) fn held_stripe(self) -> u64
+        ensures { λ r. ⌜ r ≡ heldStripe self ⌝ }
+    {
+        if self.phase == 1 {
+            return self.stripe;
+        }
+        1024
     }
 }

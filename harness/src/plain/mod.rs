@@ -2,6 +2,7 @@
 //! code computes, and shares nothing with it.
 pub mod layout;
 pub mod placement;
+pub mod scan;
 
 /// An answer: its number, 0 where the call is accepted, and its values, 0 where it has none.
 #[derive(Clone, Copy, Debug, PartialEq, Eq)]

@@ -1,0 +1,155 @@
+// A table by value: sound or not, its lowest free record, and the stripes that its open records hold. Past the eighth record there
+// are none, and the definitions take them as free; a table that long is refused by its length before any of this is asked.
+ghost use mathlib.Core.Bool.{not};
+ghost use mathlib.Core.Path.{_≡_};
+ghost use Prim.Native.Nat.{_≤_, min};
+ghost use lib.ListN.{getD};
+ghost use Rattle.terms.specs.Lists.{tabulate};
+ghost use Rattle.terms.specs.Sets.{allBelow, lowest};
+ghost use Rattle.record.specs.Asked.{soundRecordIn, soundIn, heldStripe, heldStripes};
+ghost use Rattle.record.specs.Life.{free, isFree, recordsOf};
+ghost use Rattle.record.specs.Sound.{clash, holds, held, lowestFree};
+use crate::Record;
+use crate::Table;
+use crate::life::free;
+use crate::life::units;
+use geometry::State;
+
+// How many records there are: the length, at most eight.
+fn filled(len: u64) -> usize
+    ensures { λ r. ⌜ r ≡ min len 8 ⌝ }
+{
+    if len < 8 {
+        return len as usize;
+    }
+    8
+}
+
+// Every record below top is sound.
+fn all_sound(records: [Record; 8], top: usize, state: State) -> bool
+    requires { ⌜ top ≤ 8 ⌝ }
+    ensures { λ r. ⌜ r ≡ allBelow top (λ i. soundRecordIn state (getD records i free)) ⌝ }
+{
+    let mut i = 0;
+    while i < top {
+        if !records[i].is_sound(state) {
+            return false;
+        }
+        i += 1;
+    }
+    true
+}
+
+// No two open records below top share a stripe.
+fn apart(records: [Record; 8], top: usize) -> bool
+    requires { ⌜ top ≤ 8 ⌝ }
+    ensures { λ r. ⌜ r ≡ allBelow top (λ i. allBelow i (λ j. not (clash (getD records i free) (getD records j free)))) ⌝ }
+{
+    let mut i = 0;
+    while i < top {
+        let r = records[i];
+        let mut j = 0;
+        while j < i {
+            if r.clashes(records[j]) {
+                return false;
+            }
+            j += 1;
+        }
+        i += 1;
+    }
+    true
+}
+
+// No record below top is open on the stripe.
+fn none_holds(records: [Record; 8], top: usize, stripe: u64) -> bool
+    requires { ⌜ top ≤ 8 ⌝ }
+    ensures { λ r. ⌜ r ≡ allBelow top (λ i. not (holds stripe (getD records i free))) ⌝ }
+{
+    let mut i = 0;
+    while i < top {
+        if records[i].holds(stripe) {
+            return false;
+        }
+        i += 1;
+    }
+    true
+}
+
+// The lowest free record below top, and top where none is free.
+fn first_free(records: [Record; 8], top: usize) -> usize
+    requires { ⌜ top ≤ 8 ⌝ }
+    ensures { λ r. ⌜ r ≡ lowest top (λ i. isFree (getD records i free)) ⌝ }
+{
+    let mut i = 0;
+    while i < top {
+        let r = records[i];
+        if r.phase == 0 {
+            return i;
+        }
+        i += 1;
+    }
+    i
+}
+
+impl Table {
+    // The table is sound.
+    pub fn is_sound(self, state: State) -> bool
+        ensures { λ r. ⌜ r ≡ soundIn state self ⌝ }
+    {
+        if units(state) > 7 {
+            return false;
+        }
+        let records = self.records;
+        let top = filled(self.len);
+        if !all_sound(records, top, state) {
+            return false;
+        }
+        apart(records, top)
+    }
+
+    // The lowest free record; the table's length where none is free.
+    pub fn lowest_free(self) -> u64
+        ensures { λ r. ⌜ r ≡ lowestFree (recordsOf self) ⌝ }
+    {
+        let records = self.records;
+        first_free(records, filled(self.len)) as u64
+    }
+
+    // An open request holds the stripe.
+    pub fn is_held(self, stripe: u64) -> bool
+        ensures { λ r. ⌜ r ≡ held (recordsOf self) stripe ⌝ }
+    {
+        let records = self.records;
+        !none_holds(records, filled(self.len), stripe)
+    }
+
+    // The record at i; the free record past the end.
+    pub fn at(self, i: u64) -> Record
+        ensures { λ r. ⌜ r ≡ getD (recordsOf self) i free ⌝ }
+    {
+        let records = self.records;
+        let place = filled(i);
+        if i >= self.len {
+            return free();
+        }
+        if place >= 8 {
+            return free();
+        }
+        records[place]
+    }
+
+    // The stripes that open records hold, each at its record's number; a number that is no stripe's elsewhere.
+    pub fn held_stripes(self) -> [u64; 8]
+        ensures { λ r. ⌜ r ≡ heldStripes self ⌝ }
+    {
+        let records = self.records;
+        let top = filled(self.len);
+        let mut stripes = [1024; 8];
+        let mut i = 0;
+        while i < top {
+            stripes[i] = records[i].held_stripe();
+            i += 1;
+        }
+        stripes
+    }
+}
