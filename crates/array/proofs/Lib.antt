@@ -11,7 +11,8 @@ pub mod Performed
 pub mod Within
 pub mod Chains
 pub mod Accepted
-pub mod Handed
+pub mod Answered
 pub mod Lending
 pub mod Own
+pub mod Keeping
 pub mod Kept

@@ -1,49 +1,60 @@
+-- `array::admits::admit` meets its contract: refused, nothing changes; accepted, the units are kept and the record taken.
+-- Assumes nothing.
+use Prim.Native.Nat.{ℕ}
+use mathlib.Core.Logic.{⊎-elim}
+use mathlib.Core.Path.{_≡_, refl, sym, ap, _∙_}
 use borrow.Author.Needs.{needs}
+use denote.Ref.{now}
+use lib.ListN.{length}
+use Rattle.record.specs.Life.{recordsOf}
+use Rattle.array.specs.Admission.{keepUnits}
+use Rattle.array.proofs.Answered.{admission-refused, admission-accepted}
+use Rattle.array.proofs.Keeping.{admit-keeping}
+use Rattle.array.proofs.Lending.{length-records}
 use Rattle.array.proofs.admits.admit.Statement.{statement}
 use Rattle.array.proofs.admits.admit.Tie as tie
-use Rattle.array.proofs.admits.admit.Reads as reads
-use Rattle.array.proofs.admits.admit.Lts as lts
-use Rattle.array.proofs.admits.admit_refusal.Reads as admit-refusal-reads
-use Rattle.array.proofs.admits.keep_units.Reads as keep-units-reads
-use Rattle.record.proofs.Table.lowest_free.Reads as lowest-free-reads
-use Rattle.record.proofs.admitted.Reads as admitted-reads
-use Rattle.record.proofs.free.Reads as free-reads
 
--- src/admits.rt:102:9
 admit-refusal-requires : tie.Need-admit-refusal-requires
 admit-refusal-requires c κs = search needs
 
--- src/admits.rt:107:21
 free-requires : tie.Need-free-requires
 free-requires c κs = search needs
 
--- src/admits.rt:104:9
 same-length : tie.Need-same-length
 same-length c = search needs
 
--- src/admits.rt:104:9
 returns : tie.Need-returns
-returns c = ?
+returns c =
+    let a = c .before .before .before .before .before .before .before .args in
+    rw (c .free .ensures)
+    (admission-refused (a .state) (recordsOf (a .table)) (now (a .work)) (now (a .image)) (a .write) (a .stripe) (a .mask) (now (a .payload)) _ _ (c .before .before .admit-refusal .ensures) (c .before .if1 .taken) (sym (length-records (a .table))))
 
--- src/admits.rt:110:9
 lowest-free-requires : tie.Need-lowest-free-requires
 lowest-free-requires c κs = search needs
 
--- src/admits.rt:112:9
 keep-units-requires : tie.Need-keep-units-requires
-keep-units-requires c κs = ?
+keep-units-requires c κs =
+    let a = c .before .before .before .before .before .before .before .before .before .args in
+    let z = sym (c .before .before .before .before .admit-refusal .ensures) ∙ c .before .before .before .if1 .left in
+    rw (c .before .before .lowest-free .ensures)
+    (admit-keeping (a .state) (recordsOf (a .table)) (now (a .work)) (now (a .image)) (a .stripe) (a .mask) (now (a .payload)) (rw (c .before .if2 .taken) at z))
 
--- src/admits.rt:117:17
 admitted-requires : tie.Need-admitted-requires
 admitted-requires c κs = search needs
 
--- src/admits.rt:90:1
 same-length-2 : tie.Need-same-length-2
-same-length-2 c = ?
+same-length-2 c = ⊎-elim (λ w. ap length (w .5) ∙ w .2 .kept .1 .1 .1 .1 .0) (λ w. ap length (w .1)) (c .before .if2 .came)
 
--- src/admits.rt:90:1
 returns-2 : tie.Need-returns-2
-returns-2 c = ?
+returns-2 c =
+    let a = c .before .before .before .before .before .before .before .before .before .args in
+    admission-accepted (a .state) (recordsOf (a .table)) (now (a .work)) (now (a .image)) (a .write) (a .stripe) (a .mask) (now (a .payload)) _ _ _ _ (c .before .before .before .before .admit-refusal .ensures) (c .before .before .before .if1 .left) (c .before .before .lowest-free .ensures) (c .admitted .ensures)
+    (⊎-elim
+    (λ w.
+      rw (w .0 .taken)
+      (w .5 ∙ w .2 .ensures ∙ ap (λ (p : ℕ). keepUnits (a .state) p (a .mask) (now (a .payload)) (now (a .work))) (c .before .before .lowest-free .ensures)))
+    (λ w. rw (w .0 .left) (w .1))
+    (c .before .if2 .came))
 
 pub admit-spec : {M : Type 1} → statement M
 admit-spec =
