@@ -1,27 +1,33 @@
 //! The scan of an idle array against the independent implementation: the whole answer, on every image and state below.
-use harness::numbers::{wild, Scatter};
-use harness::plain::scan::{make_right, scan, State};
-use harness::plain::Reply;
+use harness::calls::{Answer, Calls, Plain, State};
+use harness::numbers::wild;
+use harness::plain::blocks::{make_right, on_card};
+use harness::random::Random;
 use harness::recorder;
 use std::collections::BTreeSet;
 
-fn same(state: &State, image: &[u8]) -> Reply {
+/// Where a byte of a card's block stands.
+fn at(state: &State, card: usize, stripe: usize, byte: usize) -> usize {
+    on_card(state, card as u64, stripe as u64).start + byte
+}
+
+fn same(state: &State, image: &[u8]) -> Answer {
     let reply = recorder::scan(state, image);
-    assert_eq!(reply, scan(state, image), "{state:?}, an image of {} bytes", image.len());
+    assert_eq!(reply, Answer::of(Plain.scan(state, image)), "{state:?}, an image of {} bytes", image.len());
     reply
 }
 
-fn disagrees(stripe: usize, byte: usize) -> Reply {
-    Reply { number: 13, first: stripe as u64, second: byte as u64 }
+fn disagrees(stripe: usize, byte: usize) -> Answer {
+    Answer { number: 13, first: stripe as u64, second: byte as u64 }
 }
 
-fn pick(numbers: &mut Scatter, bound: usize) -> usize {
+fn pick(numbers: &mut Random, bound: usize) -> usize {
     numbers.below(bound as u64) as usize
 }
 
-fn right_image(numbers: &mut Scatter, state: &State) -> Vec<u8> {
+fn right_image(numbers: &mut Random, state: &State) -> Vec<u8> {
     let (cards, stripes, block) = state.sizes();
-    let mut image: Vec<u8> = (0..cards * stripes * block).map(|_| numbers.next() as u8).collect();
+    let mut image: Vec<u8> = (0..cards * stripes * block).map(|_| numbers.number() as u8).collect();
     make_right(state, &mut image);
     image
 }
@@ -44,17 +50,17 @@ fn shapes() -> Vec<State> {
 
 #[test]
 fn right_images() {
-    let mut numbers = Scatter::new(1);
+    let mut numbers = Random::new(1);
     for state in shapes() {
         let image = right_image(&mut numbers, &state);
-        assert_eq!(same(&state, &image), Reply::accepted(0, 0));
-        assert_eq!(same(&state, &vec![0; image.len()]), Reply::accepted(0, 0));
+        assert_eq!(same(&state, &image), Answer::accepted(0, 0));
+        assert_eq!(same(&state, &vec![0; image.len()]), Answer::accepted(0, 0));
     }
 }
 
 #[test]
 fn one_damaged_byte() {
-    let mut numbers = Scatter::new(2);
+    let mut numbers = Random::new(2);
     for state in shapes() {
         let (cards, stripes, block) = state.sizes();
         let mut image = right_image(&mut numbers, &state);
@@ -65,9 +71,9 @@ fn one_damaged_byte() {
         }
         for (card, stripe, byte) in places {
             let change = 1 << numbers.below(8);
-            image[state.at(card, stripe, byte)] ^= change;
+            image[at(&state, card, stripe, byte)] ^= change;
             assert_eq!(same(&state, &image), disagrees(stripe, byte));
-            image[state.at(card, stripe, byte)] ^= change;
+            image[at(&state, card, stripe, byte)] ^= change;
         }
     }
 }
@@ -75,7 +81,7 @@ fn one_damaged_byte() {
 /// Several damages at different places: the lowest stripe is given, and the lowest byte in it.
 #[test]
 fn several_damaged_bytes() {
-    let mut numbers = Scatter::new(3);
+    let mut numbers = Random::new(3);
     for state in shapes() {
         let (cards, stripes, block) = state.sizes();
         let right = right_image(&mut numbers, &state);
@@ -84,9 +90,9 @@ fn several_damaged_bytes() {
                 (0..count).map(|_| (pick(&mut numbers, stripes), pick(&mut numbers, block))).collect();
             let mut image = right.clone();
             for &(stripe, byte) in &places {
-                image[state.at(pick(&mut numbers, cards), stripe, byte)] ^= 1 << numbers.below(8);
+                image[at(&state, pick(&mut numbers, cards), stripe, byte)] ^= 1 << numbers.below(8);
             }
-            let &(stripe, byte) = places.first().expect("there are some");
+            let &(stripe, byte) = places.iter().next().expect("there are some");
             assert_eq!(same(&state, &image), disagrees(stripe, byte));
         }
     }
@@ -95,45 +101,45 @@ fn several_damaged_bytes() {
 /// The same change on two cards at one place leaves the sum as it was.
 #[test]
 fn damages_that_cancel() {
-    let mut numbers = Scatter::new(4);
+    let mut numbers = Random::new(4);
     for state in shapes() {
         let (cards, stripes, block) = state.sizes();
         let mut image = right_image(&mut numbers, &state);
         let (stripe, byte) = (pick(&mut numbers, stripes), pick(&mut numbers, block));
-        image[state.at(0, stripe, byte)] ^= 0x5a;
-        image[state.at(cards - 1, stripe, byte)] ^= 0x5a;
-        assert_eq!(same(&state, &image), Reply::accepted(0, 0));
-        image[state.at(1, stripe, byte)] ^= 0x01;
+        image[at(&state, 0, stripe, byte)] ^= 0x5a;
+        image[at(&state, cards - 1, stripe, byte)] ^= 0x5a;
+        assert_eq!(same(&state, &image), Answer::accepted(0, 0));
+        image[at(&state, 1, stripe, byte)] ^= 0x01;
         assert_eq!(same(&state, &image), disagrees(stripe, byte));
     }
 }
 
 #[test]
 fn random_images() {
-    let mut numbers = Scatter::new(5);
+    let mut numbers = Random::new(5);
     for state in shapes() {
         let mut image = right_image(&mut numbers, &state);
         for byte in &mut image {
             *byte ^= (numbers.below(100) == 0) as u8;
         }
         same(&state, &image);
-        image.iter_mut().for_each(|byte| *byte = numbers.next() as u8);
+        image.iter_mut().for_each(|byte| *byte = numbers.number() as u8);
         same(&state, &image);
     }
 }
 
 #[test]
 fn wrong_lengths() {
-    let mut numbers = Scatter::new(6);
+    let mut numbers = Random::new(6);
     for state in shapes() {
         let (_, _, block) = state.sizes();
         let mut longer = right_image(&mut numbers, &state);
         let len = longer.len();
         longer.resize(len + block, 0);
         for wrong in [0, 1, len - block, len - 1, len + 1, len + block] {
-            assert_eq!(same(&state, &longer[..wrong]), Reply::refused(2));
+            assert_eq!(same(&state, &longer[..wrong]), Answer::refused(2));
         }
-        assert_eq!(same(&state, &longer[1..len]), Reply::refused(2));
+        assert_eq!(same(&state, &longer[1..len]), Answer::refused(2));
     }
 }
 
@@ -170,7 +176,7 @@ fn the_limits() {
 /// Each refusal while every later one applies too: the lowest number is given.
 #[test]
 fn the_lowest_refusal() {
-    let mut numbers = Scatter::new(7);
+    let mut numbers = Random::new(7);
     for state in shapes() {
         let mut image = right_image(&mut numbers, &state);
         image[0] ^= 1;
@@ -188,14 +194,14 @@ fn the_lowest_refusal() {
             State { out: 254, ..lost },
             State { out: 256, ..lost },
         ] {
-            assert_eq!(same(&beyond, short), Reply::refused(1));
-            assert_eq!(same(&beyond, &image), Reply::refused(1));
+            assert_eq!(same(&beyond, short), Answer::refused(1));
+            assert_eq!(same(&beyond, &image), Answer::refused(1));
         }
-        assert_eq!(same(&lost, short), Reply::refused(2));
-        assert_eq!(same(&lost, &image), Reply::refused(4));
-        assert_eq!(same(&State { lost: u64::MAX, ..state }, &image), Reply::refused(4));
+        assert_eq!(same(&lost, short), Answer::refused(2));
+        assert_eq!(same(&lost, &image), Answer::refused(4));
+        assert_eq!(same(&State { lost: u64::MAX, ..state }, &image), Answer::refused(4));
         for out in 0..state.cards {
-            assert_eq!(same(&State { out, ..state }, &image), Reply::refused(12));
+            assert_eq!(same(&State { out, ..state }, &image), Answer::refused(12));
         }
         for records in 1..=8 {
             assert_eq!(same(&State { records, ..state }, &image), disagrees(0, 0));

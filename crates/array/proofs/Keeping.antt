@@ -47,7 +47,7 @@ unfolding soundRecord legalRecord
 finished-mask st r e o =
     let phase : r .phase ≡ 2 = eqb-true (r .phase) 2 o in
     let s : (legalRecord st r && legalChosen st r && rightGraph st r && rightSteps st r && rightCount st r) ≡ true =
-          rw (ne-eqb (r .phase) 0 (λ z. omega arith)) at e in
+    rw (ne-eqb (r .phase) 0 (λ z. omega arith)) at e in
     let a = legalRecord st r in
     let b = legalChosen st r in
     let four = and-left (a && b && rightGraph st r && rightSteps st r) (rightCount st r) s in

@@ -44,7 +44,9 @@ fn opened(g: Geometry, out: u64) -> State
 }
 
 // Refused by a number.
-fn refused(number: u64) -> Opening {
+fn refused(number: u64) -> Opening
+    ensures { λ r. ⌜ (r .answer ≡ Opened.Refused number) × (r .state ≡ zeroState) ⌝ }
+{
     Opening {
         answer: Opened::Refused(number),
         state: zero_state(),

@@ -1,6 +1,7 @@
 //! How long the library's scan takes beside ISA-L's `xor_check`, a plain C loop and the independent Rust scan: same buffers, same run.
 //! It decides nothing: it prints a table, which docs/PERFORMANCE.md keeps.
-use harness::plain::scan::{make_right, scan, State};
+use harness::calls::{Calls, Plain, State};
+use harness::plain::blocks::{make_right, on_card};
 use harness::recorder;
 use std::ffi::{c_char, c_int, c_void};
 use std::hint::black_box;
@@ -35,7 +36,7 @@ fn scan_by(check: XorCheck, state: &State, image: &[u8]) -> bool {
     (0..stripes).all(|stripe| {
         let mut blocks = [std::ptr::null_mut(); 8];
         for (card, pointer) in blocks.iter_mut().enumerate().take(cards) {
-            *pointer = image[state.at(card, stripe, 0)..].as_ptr() as *mut c_void;
+            *pointer = image[on_card(state, card as u64, stripe as u64)].as_ptr() as *mut c_void;
         }
         unsafe { check(cards as c_int, block as c_int, blocks.as_mut_ptr()) == 0 }
     })
@@ -85,7 +86,7 @@ fn row(state: &State, check: Option<XorCheck>) {
     let library = || recorder::scan(state, black_box(image)).number == 0;
     let checked = || check.is_some_and(|check| scan_by(check, state, black_box(image)));
     let plain = || unsafe { plain_scan(cards, stripes, block, black_box(image).as_ptr()) == 0 };
-    let rust = || scan(state, black_box(image)).number == 0;
+    let rust = || Plain.scan(state, black_box(image)) == 0;
     let mut scans: Vec<&dyn Fn() -> bool> = vec![&library];
     if check.is_some() {
         scans.push(&checked);

@@ -51,8 +51,8 @@ returns-2 c =
     admission-accepted (a .state) (recordsOf (a .table)) (now (a .work)) (now (a .image)) (a .write) (a .stripe) (a .mask) (now (a .payload)) _ _ _ _ (c .before .before .before .before .admit-refusal .ensures) (c .before .before .before .if1 .left) (c .before .before .lowest-free .ensures) (c .admitted .ensures)
     (⊎-elim
     (λ w.
-      rw (w .0 .taken)
-      (w .5 ∙ w .2 .ensures ∙ ap (λ (p : ℕ). keepUnits (a .state) p (a .mask) (now (a .payload)) (now (a .work))) (c .before .before .lowest-free .ensures)))
+    rw (w .0 .taken)
+    (w .5 ∙ w .2 .ensures ∙ ap (λ (p : ℕ). keepUnits (a .state) p (a .mask) (now (a .payload)) (now (a .work))) (c .before .before .lowest-free .ensures)))
     (λ w. rw (w .0 .left) (w .1))
     (c .before .if2 .came))
 

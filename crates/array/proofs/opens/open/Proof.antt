@@ -1,103 +1,163 @@
+-- `array::opens::open` meets its contract: refusals 1 and 2, and with none out the look at all stripes.
+-- Assumes nothing.
+use Prim.Native.Nat.{ℕ}
+use mathlib.Core.Bool.{true, false}
+use mathlib.Core.List.{List}
+use mathlib.Core.Path.{_≡_, refl, sym, ap, _∙_}
+use native.Mathlib.Omega.{arith}
 use borrow.Author.Needs.{needs}
+use denote.Ref.{now}
+use lib.ListN.{length, replicate}
+use Rattle.geometry.specs.Asked.{imageSizeIn, workSizeIn}
+use Rattle.geometry.specs.Limits.{beyondState}
+use Rattle.geometry.specs.declared.State.{State}
+use Rattle.parity.specs.Parity.{passes}
+use Rattle.parity.specs.Scan.{Named, reply, lookReply, idleScanReply}
+use Rattle.parity.specs.declared.Scan.{Scan}
+use Rattle.array.specs.Refusals.{opened}
+use Rattle.array.proofs.Opened.{opening-refused, opening-accepted, opening-disagrees, open-beyond, open-image, open-table, open-work, open-out, open-right, open-wrong, scanned, told-right, told-wrong, told-never}
 use Rattle.array.proofs.opens.open.Statement.{statement}
 use Rattle.array.proofs.opens.open.Tie as tie
-use Rattle.array.proofs.opens.open.Reads as reads
-use Rattle.array.proofs.opens.open.Lts as lts
-use Rattle.array.proofs.opens.opened.Reads as opened-reads
-use Rattle.array.proofs.opens.refused.Reads as refused-reads
-use Rattle.array.proofs.opens.zero_state.Reads as zero-state-reads
-use Rattle.geometry.proofs.State.beyond.Reads as beyond-reads
-use Rattle.geometry.proofs.State.image_size.Reads as image-size-reads
-use Rattle.geometry.proofs.State.work_size.Reads as work-size-reads
-use Rattle.parity.proofs.scan_but.Reads as scan-but-reads
 
--- src/opens.rt:58:9
 opened-requires : tie.Need-opened-requires
 opened-requires c κs = search needs
 
--- src/opens.rt:59:8
 beyond-requires : tie.Need-beyond-requires
 beyond-requires c κs = search needs
 
--- src/opens.rt:60:9
 refused-requires : tie.Need-refused-requires
 refused-requires c κs = search needs
 
--- src/opens.rt:60:9
 returns : tie.Need-returns
-returns c = ?
+returns c =
+    let a = c .before .before .before .before .before .before .args in
+    opening-refused (a .«geometry») (a .out) (a .table) (now (a .work)) (now (a .image)) 1 (open-beyond (a .«geometry») (a .out) (a .table) (now (a .work)) (now (a .image)) (ap beyondState (sym (c .before .before .before .opened .ensures)) ∙ sym (c .before .before .beyond .ensures) ∙ c .before .if1 .taken))
+    (λ z. omega arith) (λ z. omega arith) _ (c .refused .ensures .0) (c .refused .ensures .1)
 
--- src/opens.rt:62:23
+-- what each passed test tells
+inside : (c : tie.Else1) → beyondState (opened (c .before .before .before .before .before .args .«geometry») (c .before .before .before .before .before .args .out)) ≡ false
+inside c = ap beyondState (sym (c .before .before .opened .ensures)) ∙ sym (c .before .beyond .ensures) ∙ c .if1 .left
+
+image-is : (c : tie.After-image-size) → c .image-size .result ≡ imageSizeIn (opened (c .before .before .before .before .before .before .args .«geometry») (c .before .before .before .before .before .before .args .out))
+image-is c = c .image-size .ensures ∙ ap imageSizeIn (c .before .before .before .opened .ensures)
+
+records-are : (c : tie.After-opened) → c .opened .result .records ≡ opened (c .before .before .before .args .«geometry») (c .before .before .before .args .out) .records
+records-are c = ap (λ (s : State). s .records) (c .opened .ensures)
+
 image-size-requires : tie.Need-image-size-requires
 image-size-requires c κs = search needs
 
--- src/opens.rt:63:9
 refused-requires-2 : tie.Need-refused-requires-2
 refused-requires-2 c κs = search needs
 
--- src/opens.rt:63:9
 returns-2 : tie.Need-returns-2
-returns-2 c = ?
+returns-2 c =
+    let a = c .before .before .before .before .before .before .before .before .args in
+    opening-refused (a .«geometry») (a .out) (a .table) (now (a .work)) (now (a .image)) 2 (open-image (a .«geometry») (a .out) (a .table) (now (a .work)) (now (a .image)) (inside (c .before .before .before)) (λ q. c .before .if2 .taken (q ∙ sym (image-is (c .before .before)))))
+    (λ z. omega arith) (λ z. omega arith) _ (c .refused2 .ensures .0) (c .refused2 .ensures .1)
 
--- src/opens.rt:66:9
 refused-requires-3 : tie.Need-refused-requires-3
 refused-requires-3 c κs = search needs
 
--- src/opens.rt:66:9
 returns-3 : tie.Need-returns-3
-returns-3 c = ?
+returns-3 c =
+    let a = c .before .before .before .before .before .before .before .before .before .before .before .args in
+    opening-refused (a .«geometry») (a .out) (a .table) (now (a .work)) (now (a .image)) 2
+    (open-table (a .«geometry») (a .out) (a .table) (now (a .work)) (now (a .image)) (inside (c .before .before .before .before .before .before)) (c .before .before .before .before .if2 .left ∙ image-is (c .before .before .before .before .before)) (λ q. c .before .if3 .taken (q ∙ sym (records-are (c .before .before .before .before .before .before .before .before)))))
+    (λ z. omega arith) (λ z. omega arith) _ (c .refused3 .ensures .0) (c .refused3 .ensures .1)
 
--- src/opens.rt:68:22
 work-size-requires : tie.Need-work-size-requires
 work-size-requires c κs = search needs
 
--- src/opens.rt:69:9
 refused-requires-4 : tie.Need-refused-requires-4
 refused-requires-4 c κs = search needs
 
--- src/opens.rt:69:9
 returns-4 : tie.Need-returns-4
-returns-4 c = ?
+returns-4 c =
+    let a = c .before .before .before .before .before .before .before .before .before .before .before .before .before .args in
+    opening-refused (a .«geometry») (a .out) (a .table) (now (a .work)) (now (a .image)) 2
+    (open-work (a .«geometry») (a .out) (a .table) (now (a .work)) (now (a .image)) (inside (c .before .before .before .before .before .before .before .before)) (c .before .before .before .before .before .before .if2 .left ∙ image-is (c .before .before .before .before .before .before .before)) (c .before .before .before .if3 .left ∙ records-are (c .before .before .before .before .before .before .before .before .before .before))
+    (λ q. c .before .if4 .taken (q ∙ sym (c .before .before .work-size .ensures ∙ ap workSizeIn (c .before .before .before .before .before .before .before .before .before .before .opened .ensures)))))
+    (λ z. omega arith) (λ z. omega arith) _ (c .refused4 .ensures .0) (c .refused4 .ensures .1)
 
--- src/opens.rt:72:9
 returns-5 : tie.Need-returns-5
-returns-5 c = ?
+returns-5 c =
+    let a = c .before .before .before .before .before .before .before .before .before .before .before .before .before .args in
+    opening-accepted (a .«geometry») (a .out) (a .table) (now (a .work)) (now (a .image))
+    (open-out (a .«geometry») (a .out) (a .table) (now (a .work)) (now (a .image)) (inside (c .before .before .before .before .before .before .before .before)) (c .before .before .before .before .before .before .if2 .left ∙ image-is (c .before .before .before .before .before .before .before)) (c .before .before .before .if3 .left ∙ records-are (c .before .before .before .before .before .before .before .before .before .before))
+    (c .before .if4 .left ∙ c .before .before .work-size .ensures ∙ ap workSizeIn (c .before .before .before .before .before .before .before .before .before .before .opened .ensures)) (c .if5 .taken))
+    _ (c .before .before .before .before .before .before .before .before .before .before .opened .ensures)
 
--- src/opens.rt:77:11
 scan-but-requires : tie.Need-scan-but-requires
 scan-but-requires c κs = search needs
 
--- src/opens.rt:79:21
+-- what the look at all stripes says of parity
+says : (c : tie.After-scan-but) → reply (c .scan-but .result) ≡ idleScanReply (opened (c .before .before .before .before .before .before .before .before .before .before .before .before .before .before .args .«geometry») (c .before .before .before .before .before .before .before .before .before .before .before .before .before .before .args .out)) (now (c .before .before .before .before .before .before .before .before .before .before .before .before .before .before .args .image))
+says c =
+    let a = c .before .before .before .before .before .before .before .before .before .before .before .before .before .before .args in
+    c .scan-but .ensures .0
+    ∙ ap (λ (s : State). lookReply s (now (a .image)) (passes (replicate 8 1024))) (c .before .before .before .before .before .before .before .before .before .before .before .opened .ensures)
+    ∙ scanned (a .«geometry») (a .out) (a .table) (now (a .work)) (now (a .image))
+    (inside (c .before .before .before .before .before .before .before .before .before)) (c .before .before .before .before .before .before .before .if2 .left ∙ image-is (c .before .before .before .before .before .before .before .before)) (c .before .before .before .before .if3 .left ∙ records-are (c .before .before .before .before .before .before .before .before .before .before .before))
+    (c .before .before .if4 .left ∙ c .before .before .before .work-size .ensures ∙ ap workSizeIn (c .before .before .before .before .before .before .before .before .before .before .before .opened .ensures)) (c .before .if5 .left)
+
 enum-told : tie.Need-enum-told
 enum-told c = search needs
 
--- src/opens.rt:82:27
 enum-known-stripe : tie.Need-enum-known-stripe
 enum-known-stripe c = search needs
 
--- src/opens.rt:84:20
 zero-state-requires : tie.Need-zero-state-requires
 zero-state-requires c κs = search needs
 
--- src/opens.rt:86:23
 enum-known-number : tie.Need-enum-known-number
 enum-known-number c = search needs
 
--- src/opens.rt:86:34
 refused-requires-5 : tie.Need-refused-requires-5
 refused-requires-5 c κs = search needs
 
--- src/opens.rt:55:1
 returns-6 : tie.Need-returns-6
-returns-6 c = ?
+unfolding reply
+returns-6 c =
+    let k = c .before .before in
+    let a = k .before .before .before .before .before .before .before .before .before .before .before .before .before .before .args in
+    opening-accepted (a .«geometry») (a .out) (a .table) (now (a .work)) (now (a .image))
+    (open-right (a .«geometry») (a .out) (a .table) (now (a .work)) (now (a .image))
+    (inside (k .before .before .before .before .before .before .before .before .before)) (k .before .before .before .before .before .before .before .if2 .left ∙ image-is (k .before .before .before .before .before .before .before .before)) (k .before .before .before .before .if3 .left ∙ records-are (k .before .before .before .before .before .before .before .before .before .before .before))
+    (k .before .before .if4 .left ∙ k .before .before .before .work-size .ensures ∙ ap workSizeIn (k .before .before .before .before .before .before .before .before .before .before .before .opened .ensures)) (k .before .if5 .left)
+    (told-right (a .«geometry») (a .out) (a .table) (now (a .work)) (now (a .image))
+    (inside (k .before .before .before .before .before .before .before .before .before)) (k .before .before .before .before .before .before .before .if2 .left ∙ image-is (k .before .before .before .before .before .before .before .before)) (k .before .before .before .before .if3 .left ∙ records-are (k .before .before .before .before .before .before .before .before .before .before .before))
+    (k .before .before .if4 .left ∙ k .before .before .before .work-size .ensures ∙ ap workSizeIn (k .before .before .before .before .before .before .before .before .before .before .before .opened .ensures)) (k .before .if5 .left)
+    (sym (ap reply (c .enum-told .given .1)) ∙ says k)))
+    _ (k .before .before .before .before .before .before .before .before .before .before .before .opened .ensures)
 
--- src/opens.rt:55:1
 returns-7 : tie.Need-returns-7
-returns-7 c = ?
+unfolding reply
+returns-7 c =
+    let k = c .before .before .before .before in
+    let a = k .before .before .before .before .before .before .before .before .before .before .before .before .before .before .args in
+    let told =
+    told-wrong (a .«geometry») (a .out) (a .table) (now (a .work)) (now (a .image))
+    (inside (k .before .before .before .before .before .before .before .before .before)) (k .before .before .before .before .before .before .before .if2 .left ∙ image-is (k .before .before .before .before .before .before .before .before)) (k .before .before .before .before .if3 .left ∙ records-are (k .before .before .before .before .before .before .before .before .before .before .before))
+    (k .before .before .if4 .left ∙ k .before .before .before .work-size .ensures ∙ ap workSizeIn (k .before .before .before .before .before .before .before .before .before .before .before .opened .ensures)) (k .before .if5 .left)
+    _ _ (sym (ap reply (c .before .before .stripe .given .1)) ∙ says k) in
+    opening-disagrees (a .«geometry») (a .out) (a .table) (now (a .work)) (now (a .image))
+    (open-wrong (a .«geometry») (a .out) (a .table) (now (a .work)) (now (a .image))
+    (inside (k .before .before .before .before .before .before .before .before .before)) (k .before .before .before .before .before .before .before .if2 .left ∙ image-is (k .before .before .before .before .before .before .before .before)) (k .before .before .before .before .if3 .left ∙ records-are (k .before .before .before .before .before .before .before .before .before .before .before))
+    (k .before .before .if4 .left ∙ k .before .before .before .work-size .ensures ∙ ap workSizeIn (k .before .before .before .before .before .before .before .before .before .before .before .opened .ensures)) (k .before .if5 .left)
+    (told .0))
+    _ _ (told .1) _ (c .zero-state .ensures)
 
--- src/opens.rt:55:1
 returns-8 : tie.Need-returns-8
-returns-8 c = ?
+unfolding reply
+returns-8 c =
+    let k = c .before .before .before .before in
+    let a = k .before .before .before .before .before .before .before .before .before .before .before .before .before .before .args in
+    absurd
+    (told-never (a .«geometry») (a .out) (a .table) (now (a .work)) (now (a .image))
+    (inside (k .before .before .before .before .before .before .before .before .before)) (k .before .before .before .before .before .before .before .if2 .left ∙ image-is (k .before .before .before .before .before .before .before .before)) (k .before .before .before .before .if3 .left ∙ records-are (k .before .before .before .before .before .before .before .before .before .before .before))
+    (k .before .before .if4 .left ∙ k .before .before .before .work-size .ensures ∙ ap workSizeIn (k .before .before .before .before .before .before .before .before .before .before .before .opened .ensures)) (k .before .if5 .left)
+    _ (sym (ap reply (c .before .before .number .given .1)) ∙ says k) (rw (c .before .before .number .given .1) at (k .scan-but .ensures .1)))
 
 pub open-spec : {M : Type 1} → statement M
 open-spec =
