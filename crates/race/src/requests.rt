@@ -37,23 +37,16 @@ pub(crate) fn begin(
     Begun { desk, place }
 }
 
-// Admits a write of one touch to the block of its number.
+// Admits a write of one touch to a block.
 pub(crate) fn begin_touch(
     desk: Desk,
     block: u64,
-    touches: &[u8],
+    sent: &[u8],
     work: &mut [u8],
     image: &[u8],
 ) -> Begun {
     let spot = desk.spot(block);
-    begin(
-        desk,
-        work,
-        image,
-        spot.stripe,
-        spot.mask,
-        touch(touches, block),
-    )
+    begin(desk, work, image, spot.stripe, spot.mask, sent)
 }
 
 // Takes step k of record i, and tells what came of it where it is aloud.

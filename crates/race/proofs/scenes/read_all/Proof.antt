@@ -11,11 +11,11 @@ use Rattle.race.proofs.scenes.read_all.Statement.{statement}
 use Rattle.race.proofs.scenes.read_all.Tie as tie
 
 abbrev Inv-loop : tie.InvT-loop
-Inv-loop touches work₀ image₀ now₀ same₀ block₀ work image now same block =
+Inv-loop last work₀ image₀ now₀ same₀ block₀ work image now same block =
     (same ≤ block) × (length work ≡ length work₀) × (length image ≡ length image₀)
 
 abbrev μ-loop : tie.MeasureT-loop
-μ-loop touches work₀ image₀ now₀ same₀ block₀ work image now same block = 6 - block
+μ-loop last work₀ image₀ now₀ same₀ block₀ work image now same block = 8 - block
 
 loop-holds : tie.Need-loop-holds Inv-loop μ-loop
 loop-holds c = search needs
