@@ -8,3 +8,5 @@ pub mod Rules
 pub mod Positions
 pub mod Forerunners
 pub mod InOrder
+pub mod Sizes
+pub mod Members
