@@ -6,3 +6,4 @@ pub mod Loops
 pub mod Clashes
 pub mod Eight
 pub mod Held
+pub mod Soundness
