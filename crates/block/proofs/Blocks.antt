@@ -113,6 +113,14 @@ pub summed-more : (n : ℕ) (f : ℕ → List ℕ) (a : List ℕ) → summed (n 
 unfolding summed changes
 summed-more n f a = rw add-one
 
+-- two blocks more
+pub summed-two : (n : ℕ) (f : ℕ → List ℕ) (a : List ℕ) → summed (n + 2) f a ≡ added (added (summed n f a) (f n)) (f (n + 1))
+summed-two n f a =
+    ap (λ (k : ℕ). summed k f a) (add-assoc-one n) ∙ summed-more (n + 1) f a ∙ ap (λ (s : List ℕ). added s (f (n + 1))) (summed-more n f a)
+  where
+    add-assoc-one : (k : ℕ) → k + 2 ≡ k + 1 + 1
+    add-assoc-one k = omega arith
+
 pub length-summed : (n : ℕ) (f : ℕ → List ℕ) (a : List ℕ) → length (summed n f a) ≡ length a
 unfolding summed changes
 length-summed zero f a = refl

@@ -1,12 +1,13 @@
 -- Different blocks of the image do not overlap and lie inside it, and so do the blocks of the work store.
 -- Assumes nothing.
-use Prim.Native.Nat.{ℕ, zero-le, _+_, _*_, _/_, _%_, _≤_, _<_}
-use mathlib.Core.Path.{_≡_, ap, sym, subst, _∙_}
+use Prim.Native.Nat.{ℕ, _+_, _*_, _≤_, _<_}
+use mathlib.Core.Path.{_≡_}
 use mathlib.Core.Logic.{_⊎_, inl, inr}
 use native.Mathlib.Decide.{decLt}
-use native.Mathlib.Nat.{lt-of-le-of-lt, mul-comm, mul-le-mul-right, mul-add-div-right, mul-add-mod-self-right, div-eq-of-lt, mod-eq-of-lt, add-zero}
+use native.Mathlib.Nat.{mul-le-mul-right}
 use native.Mathlib.Omega.{arith}
 use Rattle.geometry.specs.Store.{imageSize, cellAt, workSize, writeAt, readAt}
+use Rattle.geometry.proofs.Grid.{grid-inside, grid-apart}
 
 -- blocks of B bytes from a and from b do not overlap
 abbrev pub Apart : ℕ → ℕ → ℕ → Type 0
@@ -23,23 +24,6 @@ row-apart B k l differ =
       | yes h ↦ inl (row-inside B k l h)
       | no h ↦ inr (row-inside B l k (omega arith))
     ]
-
--- rows of w numbers: row r and column i give one of the h rows' numbers
-grid-inside : (w h r i : ℕ) → r < h → i < w → r * w + i < h * w
-grid-inside w h r i hr hi = omega (arith, mul-le-mul-right w hr)
-
--- and can be read off it
-grid-row : (w r i : ℕ) → i < w → (r * w + i) / w ≡ r
-grid-row w r i h = mul-add-div-right (lt-of-le-of-lt zero-le h) r i ∙ ap (λ (k : ℕ). r + k) (div-eq-of-lt h) ∙ add-zero r
-
-grid-column : (w r i : ℕ) → i < w → (r * w + i) % w ≡ i
-grid-column w r i h = mul-add-mod-self-right r w i ∙ mod-eq-of-lt h
-
-grid-apart : (w r i q j : ℕ) → i < w → j < w → (r ≡ q → i ≡ j → ⊥) → ¬ (r * w + i ≡ q * w + j)
-grid-apart w r i q j hi hj differ e =
-    differ
-    (sym (grid-row w r i hi) ∙ ap (λ (k : ℕ). k / w) e ∙ grid-row w q j hj)
-    (sym (grid-column w r i hi) ∙ ap (λ (k : ℕ). k % w) e ∙ grid-column w q j hj)
 
 module _ (N S B : ℕ) where
   -- the block of a card and a stripe lies inside the image

@@ -1,19 +1,17 @@
 -- The limits as facts: what the numbers of a legal geometry are, and how large the image and the work store can get.
 -- Assumes nothing.
-use Prim.Native.Nat.{ℕ, _*_, _%_, _≤_, _<_}
-use mathlib.Core.Bool.{Bool, true, false, _&&_, _||_, not}
+use Prim.Native.Nat.{ℕ, _%_, _≤_, _<_}
+use mathlib.Core.Bool.{Bool, true, false, _&&_}
 use mathlib.Core.Logic.{_⊎_, inl, inr}
 use mathlib.Core.Path.{_≡_}
 use native.Mathlib.Nat.{le-refl, mul-le-mul}
-use native.Mathlib.Omega.{arith}
 use lib.Dec.{ltb, eqb}
 use borrow.Author.Tests.{ltb-true, eqb-true, eq-eqb, not-false}
 use Rattle.terms.specs.Sets.{within}
 use Rattle.terms.proofs.Rows.{and-left, and-right, and-both, or-cases, within-low, within-high, within-intro}
-use Rattle.geometry.specs.Limits.{legal, legalOut, none, beyond, beyondState}
+use Rattle.geometry.specs.Limits.{legal, legalOut, none, beyond}
 use Rattle.geometry.specs.Store.{imageSize, workSize}
 use Rattle.geometry.specs.declared.Geometry.{Geometry}
-use Rattle.geometry.specs.declared.State.{State}
 
 -- the limits of N, S, B and K
 pub record Bounds (N S B K : ℕ) : Type 0 where

@@ -2,6 +2,11 @@
 pub mod Places
 pub mod Turns
 pub mod Answered
+pub mod Inverse
+pub mod Single
+pub mod Grid
 pub mod Apart
 pub mod Bounds
+pub mod Asked
+pub mod Lengths
 pub mod Flags

@@ -21,7 +21,7 @@ module _ (N : ℕ) (some : zero < N) where
   unfolding parityCard
   turned s i h =
       let r : s % N < N = mod-lt s some in
-      let e : N - 1 - s % N + 1 + i + s % N ≡ N + i = omega arith in
+      let e : parityCard N s + 1 + i + s % N ≡ N + i = omega arith in
       ap (λ (k : ℕ). k % N) e ∙ add-mod-left N i ∙ mod-eq-of-lt h
 
   pub positionOf-cardAt : (s j : ℕ) → j < N → positionOf N s (cardAt N s j) ≡ j
@@ -38,8 +38,8 @@ module _ (N : ℕ) (some : zero < N) where
   pub cardAt-parity : (s : ℕ) → cardAt N s (N - 1) ≡ parityCard N s
   unfolding cardAt parityCard
   cardAt-parity s =
-      let e : N - 1 - s % N + 1 + (N - 1) ≡ N - 1 - s % N + N = omega arith in
-      ap (λ (k : ℕ). k % N) e ∙ add-mod-right (N - 1 - s % N) N ∙ mod-eq-of-lt (omega arith)
+      let e : parityCard N s + 1 + (N - 1) ≡ parityCard N s + N = omega arith in
+      ap (λ (k : ℕ). k % N) e ∙ add-mod-right (parityCard N s) N ∙ mod-eq-of-lt (omega arith)
 
   pub left-symmetric : Placing N (cardAt N) (positionOf N)
   left-symmetric =

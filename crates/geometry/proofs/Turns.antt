@@ -1,6 +1,6 @@
 -- Placement without a sum that could wrap: which card and which position, by whether the stripe's turn passes the last card.
 -- Assumes nothing.
-use Prim.Native.Nat.{ℕ, zero, zero-le, _+_, _-_, _%_, _≤_, _<_}
+use Prim.Native.Nat.{ℕ, zero-le, _+_, _-_, _%_, _≤_, _<_}
 use mathlib.Core.Path.{_≡_, ap, _∙_}
 use native.Mathlib.Nat.{lt-of-le-of-lt, mod-lt, mod-eq-of-lt, add-mod-left}
 use native.Mathlib.Omega.{arith}
@@ -33,14 +33,14 @@ module _ (N s i : ℕ) where
   unfolding cardAt parityCard
   card-before h t =
       let r = turn-below h in
-      let e : N - 1 - s % N + 1 + i ≡ N - s % N + i = omega arith in
+      let e : parityCard N s + 1 + i ≡ N - s % N + i = omega arith in
       ap (λ (k : ℕ). k % N) e ∙ mod-eq-of-lt (omega arith)
 
   pub card-from : i < N → s % N ≤ i → cardAt N s i ≡ i - s % N
   unfolding cardAt parityCard
   card-from h t =
       let r = turn-below h in
-      let e : N - 1 - s % N + 1 + i ≡ N + (i - s % N) = omega arith in
+      let e : parityCard N s + 1 + i ≡ N + (i - s % N) = omega arith in
       ap (λ (k : ℕ). k % N) e ∙ add-mod-left N (i - s % N) ∙ mod-eq-of-lt (omega arith)
 
   -- the position of card i

@@ -1,8 +1,8 @@
 -- Document 01, "Refusal numbers": what placement answers, each way. It gives 1 and 5, with B taken as 16, K as 1 and no card out.
 -- Assumes nothing.
-use Prim.Native.Nat.{ℕ, _+_, _-_, _*_, _^_}
+use Prim.Native.Nat.{ℕ, _-_, _*_}
 use mathlib.Core.Bool.{Bool, cond, _||_}
-use mathlib.Core.List.{List, [], _∷_}
+use mathlib.Core.List.{[], _∷_}
 use lib.Dec.{leb, eqb}
 use Rattle.terms.specs.Reply.{Reply, accepted, refused, row, firstRow}
 use Rattle.geometry.specs.Limits.{beyond, none}

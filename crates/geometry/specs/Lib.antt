@@ -4,4 +4,5 @@ pub mod Placement
 pub mod Placing
 pub mod Answers
 pub mod Store
+pub mod Asked
 pub mod Report

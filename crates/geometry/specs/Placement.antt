@@ -2,9 +2,8 @@
 -- parity, n = N-1.
 -- Assumes nothing.
 use Prim.Native.Nat.{ℕ, _+_, _-_, _*_, _/_, _%_}
-use mathlib.Core.Bool.{Bool, cond}
-use lib.Dec.{ltb, eqb}
-use Rattle.geometry.specs.Limits.{none}
+use mathlib.Core.Bool.{cond}
+use lib.Dec.{ltb}
 use Rattle.geometry.specs.declared.State.{State}
 
 -- stripe s has its parity on card p = N-1-(s mod N)

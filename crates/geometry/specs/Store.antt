@@ -1,10 +1,11 @@
 -- Document 01, "The array": where a block stands in the image, and where a record's blocks stand in the work store.
 -- Assumes nothing.
 use Prim.Native.Nat.{ℕ, _+_, _*_}
-use mathlib.Core.Bool.{Bool, not}
+use mathlib.Core.Bool.{Bool, not, _&&_}
 use mathlib.Core.List.{List}
-use lib.Dec.{eqb}
+use lib.Dec.{ltb, eqb}
 use lib.ListN.{length}
+use Rattle.geometry.specs.Limits.{legal}
 use Rattle.geometry.specs.declared.State.{State}
 
 -- the image is exactly N·S·B bytes
@@ -34,3 +35,15 @@ imageWrong st image = not (eqb (length image) (imageSize (st .cards) (st .stripe
 -- refusal 2, of the work store: it is not exactly 2·N·B bytes for each record
 unfoldable pub workWrong : State → List ℕ → Bool
 workWrong st work = not (eqb (length work) (workSize (st .cards) (st .block) (st .records)))
+
+-- a state whose N, S, B and K are within their limits
+abbrev pub legalState : State → Bool
+legalState st = legal (st .cards) (st .stripes) (st .block) (st .records)
+
+-- there is a block of card c in stripe s
+unfoldable pub inImage : State → ℕ → ℕ → Bool
+inImage st c s = legalState st && ltb c (st .cards) && ltb s (st .stripes)
+
+-- record r has a block to write, and a block read, of position j
+unfoldable pub inWork : State → ℕ → ℕ → Bool
+inWork st r j = legalState st && ltb r (st .records) && ltb j (st .cards)

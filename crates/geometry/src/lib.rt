@@ -6,8 +6,10 @@ pub use placement::card_at;
 pub use placement::missing_at;
 
 mod limits;
+mod parts;
 mod placement;
 pub mod report;
+mod store;
 
 // The numbers an array is opened with: cards (N), stripes (S), bytes in a block (B), request records (K).
 #[repr(C)]

@@ -2,7 +2,7 @@
 // Assumes nothing.
 ghost use mathlib.Core.Path.{_≡_};
 ghost use Rattle.terms.specs.Sets.{within};
-ghost use Rattle.geometry.specs.Limits.{legal, legalOut, beyond, geometryOf, beyondState, isLost};
+ghost use Rattle.geometry.specs.Limits.{legal, beyond, geometryOf, beyondState, isLost};
 use crate::Geometry;
 use crate::State;
 

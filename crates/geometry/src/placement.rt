@@ -55,20 +55,23 @@ impl State {
 }
 
 impl Geometry {
-    // The geometry that placement is asked of: B is taken as 16, K as 1.
-    fn for_places(mut self) -> Geometry
-        ensures { λ r. ⌜ r ≡ placesOf (self .cards) (self .stripes) ⌝ }
+    // A geometry of so many cards and stripes, for placement: B is taken as 16, K as 1.
+    pub fn places(cards: u64, stripes: u64) -> Geometry
+        ensures { λ r. ⌜ r ≡ placesOf cards stripes ⌝ }
     {
-        self.block = 16;
-        self.records = 1;
-        self
+        Geometry {
+            cards,
+            stripes,
+            block: 16,
+            records: 1,
+        }
     }
 
     // Refusal 1 of placement: whether the cards or the stripes are beyond their limits.
     pub fn beyond_places(self) -> bool
         ensures { λ r. ⌜ r ≡ beyondPlaces (self .cards) (self .stripes) ⌝ }
     {
-        self.for_places().beyond(NONE)
+        Geometry::places(self.cards, self.stripes).beyond(NONE)
     }
 
     // The card and the stripe of a logical block.

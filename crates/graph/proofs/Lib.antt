@@ -1,4 +1,5 @@
 -- Laws of the graphs, by subject.
+pub mod Guard
 pub mod Graphs
 pub mod Numbers
 pub mod Few

@@ -1,13 +1,18 @@
 -- Document 01, "Refusal numbers", 13: the lowest stripe and the lowest byte in it where parity disagrees.
 -- Assumes nothing.
 use Prim.Native.Nat.{ℕ, _+_}
-use mathlib.Core.Bool.{Bool, true, cond, not, _&&_}
+use mathlib.Core.Bool.{Bool, cond, not, _&&_}
 use mathlib.Core.List.{List}
 use lib.Dec.{ltb, eqb}
 use lib.ListN.{getD}
+use Rattle.terms.specs.Lists.{part, every}
 use Rattle.terms.specs.Reply.{Reply, accepted}
 use Rattle.terms.specs.Sets.{lowest, xorTo}
 use Rattle.geometry.specs.Store.{cellAt}
+
+-- the block of card c in stripe s: a part of the image that starts in its middle
+unfoldable pub cell : ℕ → ℕ → List ℕ → ℕ → ℕ → List ℕ
+cell S B image s c = part (cellAt S B c s) B image
 
 -- byte b of the block of card c in stripe s
 unfoldable pub byteAt : ℕ → ℕ → List ℕ → ℕ → ℕ → ℕ → ℕ
@@ -37,3 +42,11 @@ disagreement N S B image pass =
       first = wrongStripe N S B image pass;
       second = wrongByte N S B image (wrongStripe N S B image pass);
     }
+
+-- what a look at all stripes but those passed over answers: parity is right, or refusal 13
+unfoldable pub looked : ℕ → ℕ → ℕ → List ℕ → (ℕ → Bool) → Reply
+looked N S B image pass = cond (rightParity N S B image pass) (accepted 0 0) (disagreement N S B image pass)
+
+-- a set of stripes to pass over, as a list of their numbers
+unfoldable pub passes : List ℕ → ℕ → Bool
+passes skip s = not (every (λ h. not (eqb h s)) skip)

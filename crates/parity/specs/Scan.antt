@@ -4,11 +4,33 @@ use Prim.Native.Nat.{ℕ}
 use mathlib.Core.Bool.{Bool, false, not}
 use mathlib.Core.List.{List, [], _∷_}
 use lib.Dec.{eqb}
-use Rattle.terms.specs.Reply.{Reply, accepted, row, firstRow, onAccept, refusedOr13}
+use Rattle.terms.specs.Reply.{Reply, accepted, refused, row, firstRow, onAccept, refusedOr13}
 use Rattle.geometry.specs.Limits.{none, beyondState, isLost}
 use Rattle.geometry.specs.Store.{imageWrong}
 use Rattle.geometry.specs.declared.State.{State}
 use Rattle.parity.specs.Parity.{rightParity, disagreement}
+use Rattle.parity.specs.declared.Scan.{Scan}
+use Rattle.parity.specs.declared.Scan.the-variants.{Right, Disagrees, Refused}
+
+-- a scan's answer by 01's numbers: 0, or 13 with the stripe and the byte, or another refusal
+unfoldable pub reply : Scan → Reply
+reply Right = accepted 0 0
+reply (Disagrees s b) = record { number = 13; first = s; second = b }
+reply (Refused k) = refused k
+
+-- 1, 2 and 13, with some stripes passed over: what an open array's scan and opening ask
+unfoldable pub lookRefusal : State → List ℕ → (ℕ → Bool) → ℕ
+lookRefusal st image pass =
+    firstRow
+    (row (beyondState st) 1
+    ∷ row (imageWrong st image) 2
+    ∷ row (not (rightParity (st .cards) (st .stripes) (st .block) image pass)) 13
+    ∷ [])
+
+unfoldable pub lookReply : State → List ℕ → (ℕ → Bool) → Reply
+lookReply st image pass =
+    let number = lookRefusal st image pass in
+    onAccept number (accepted 0 0) (refusedOr13 number (disagreement (st .cards) (st .stripes) (st .block) image pass))
 
 -- no stripe is passed over
 abbrev pub nothingHeld : ℕ → Bool

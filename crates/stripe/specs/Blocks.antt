@@ -1,18 +1,30 @@
 -- What a stripe and a request's work store hold, by position, and what a done step does to them.
 -- Assumes nothing.
-use Prim.Native.Nat.{ℕ, suc}
-use mathlib.Core.Bool.{Bool, cond}
+use Prim.Native.Nat.{ℕ, suc, _≤_}
+use mathlib.Core.Bool.{cond}
+use mathlib.Core.Path.{_≡_}
 use lib.Dec.{eqb}
 use Rattle.graph.specs.Steps.{Step, rd, xr, wr, nil}
 use Rattle.graph.specs.Sums.{takesRead, takesNew, sumsToRead}
 use Rattle.stripe.specs.Group.{Group, sumTo}
 use Rattle.stripe.specs.Request.{Request}
 
+-- the step reads or writes position p; the exclusive or is on none
+pub data On (p : ℕ) : Step → Type 0 where
+  by-read : On p (rd p)
+  by-write : On p (wr p)
+
 -- a stripe's contents, the request's read blocks and its blocks to write, each a function of the position
 pub record Blocks (A : Type 0) : Type 0 where
   pub cell : ℕ → A
   pub got : ℕ → A
   pub new : ℕ → A
+
+-- two that nobody can tell apart but by what the missing position x holds
+pub record Alike {A : Type 0} (n x : ℕ) (b b′ : Blocks A) : Type 0 where
+  pub same-cell : (p : ℕ) → p ≤ n → ¬ (p ≡ x) → b .cell p ≡ b′ .cell p
+  pub same-got : (p : ℕ) → b .got p ≡ b′ .got p
+  pub same-new : (p : ℕ) → b .new p ≡ b′ .new p
 
 -- f with a at position p
 unfoldable pub changed : {A : Type 0} → (ℕ → A) → ℕ → A → ℕ → A

@@ -1,7 +1,9 @@
 -- What is added in a stripe: any group in which every element is its own inverse. Bytes under exclusive or are one.
 -- Assumes nothing.
 use Prim.Native.Nat.{ℕ, zero, suc}
+use mathlib.Core.Bool.{cond}
 use mathlib.Core.Path.{_≡_}
+use lib.Dec.{eqb}
 
 pub record Group : Type 1 where
   pub carrier : Type 0
@@ -16,3 +18,7 @@ pub record Group : Type 1 where
 unfoldable pub sumTo : (G : Group) → ℕ → (ℕ → G .carrier) → G .carrier
 sumTo G zero f = G .nought
 sumTo G (suc n) f = G .add (sumTo G n f) (f n)
+
+-- f at all numbers but x
+unfoldable pub others : (G : Group) → ℕ → (ℕ → G .carrier) → ℕ → G .carrier
+others G x f p = cond (eqb p x) (G .nought) (f p)

@@ -2,14 +2,14 @@
 -- A row is a function on the positions 0 to n whose whole sum is nothing, so parity is one more position.
 -- Assumes nothing.
 use Prim.Native.Nat.{ℕ, suc, _+_, _*_, _≤_, _<_, _^_}
-use mathlib.Core.Bool.{Bool, true, false, cond, not, _&&_}
+use mathlib.Core.Bool.{Bool, true, false, cond}
 use mathlib.Core.Path.{_≡_}
 use mathlib.Core.Logic.{_⊎_}
 use lib.Dec.{eqb}
 use Rattle.terms.specs.Sets.{bit}
 use Rattle.graph.specs.Choice.{choose}
 use Rattle.graph.specs.Order.{closed}
-use Rattle.graph.specs.Steps.{Step, rd, xr, wr, nil, stepOf, numberOf, stepNumbers, member, masked, unmasked}
+use Rattle.graph.specs.Steps.{Step, rd, xr, wr, stepOf, numberOf, stepNumbers, member, masked, unmasked}
 use Rattle.stripe.specs.Blocks.{Blocks}
 use Rattle.stripe.specs.Group.{Group, sumTo}
 use Rattle.stripe.specs.Request.{Request}
@@ -51,6 +51,15 @@ module _ (G : Group) where
   -- the sum of a row's positions is nothing
   unfoldable pub IsRow : ℕ → (ℕ → G .carrier) → Type 0
   IsRow n R = sumTo G (suc n) R ≡ G .nought
+
+  -- the units after a write: new in the mask, as they were outside it
+  unfoldable pub unitsAfter : ℕ → (ℕ → G .carrier) → (ℕ → G .carrier) → ℕ → G .carrier
+  unitsAfter mask R new p = cond (bit p mask) (new p) (R p)
+
+  -- the row after a request on R: a read's is R; a write's has these units, and parity is their sum
+  unfoldable pub rowAfter : ℕ → Bool → ℕ → (ℕ → G .carrier) → (ℕ → G .carrier) → ℕ → G .carrier
+  rowAfter n write mask R new p =
+      cond write (cond (eqb p n) (sumTo G n (unitsAfter mask R new)) (unitsAfter mask R new p)) (R p)
 
   -- an idle stripe: working positions hold the row
   pub record Idle (n x : ℕ) (R cell : ℕ → G .carrier) : Type 0 where

@@ -3,3 +3,4 @@ pub mod Group
 pub mod Request
 pub mod Blocks
 pub mod Invariant
+pub mod Run

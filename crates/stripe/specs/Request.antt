@@ -3,7 +3,7 @@
 use Prim.Native.Nat.{ℕ, _+_}
 use mathlib.Core.Bool.{Bool}
 use Rattle.graph.specs.Choice.{choose}
-use Rattle.graph.specs.Order.{after}
+use Rattle.graph.specs.Order.{ready, after, complete}
 
 -- write or not, the mask, the graph, the position that was missing when it was chosen, the done steps, the accepted steps since admission
 pub record Request : Type 0 where
@@ -13,6 +13,13 @@ pub record Request : Type 0 where
   pub missed : ℕ
   pub done : ℕ
   pub count : ℕ
+
+-- step k is ready, and no step is wanting
+abbrev pub readyAt : ℕ → Request → ℕ → Bool
+readyAt n q k = ready n (q .graph) (q .mask) (q .missed) (q .done) k
+
+abbrev pub finished : ℕ → Request → Bool
+finished n q = complete n (q .graph) (q .mask) (q .missed) (q .done)
 
 -- a request at admission to a stripe of n units whose position x is missing
 unfoldable pub begun : ℕ → Bool → ℕ → ℕ → Request

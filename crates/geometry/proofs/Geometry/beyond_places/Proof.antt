@@ -7,14 +7,14 @@ use Rattle.geometry.specs.declared.Geometry.{Geometry}
 use Rattle.geometry.proofs.Geometry.beyond_places.Statement.{statement}
 use Rattle.geometry.proofs.Geometry.beyond_places.Tie as tie
 
-for-places-requires : tie.Need-for-places-requires
-for-places-requires c κs = search needs
+places-requires : tie.Need-places-requires
+places-requires c κs = search needs
 
 beyond-requires : tie.Need-beyond-requires
 beyond-requires c κs = search needs
 
 returns : tie.Need-returns
-returns c = c .beyond .ensures ∙ ap (λ (g : Geometry). beyond g none) (c .before .for-places .ensures)
+returns c = c .beyond .ensures ∙ ap (λ (g : Geometry). beyond g none) (c .before .places .ensures)
 
 pub beyond-places-spec : {M : Type 1} → statement M
-beyond-places-spec = tie.close (tie.spec for-places-requires beyond-requires returns)
+beyond-places-spec = tie.close (tie.spec places-requires beyond-requires returns)

@@ -1,7 +1,7 @@
 -- `geometry::Geometry::block_at` meets its contract: each return is a case of what placement answers.
 -- Assumes nothing.
 use Prim.Native.Nat.{ℕ, zero-le, _+_, _-_, _*_, _<_}
-use mathlib.Core.Bool.{true, false}
+use mathlib.Core.Bool.{false}
 use mathlib.Core.Path.{_≡_, ap, sym, _∙_}
 use native.Mathlib.Nat.{le-of-lt, lt-of-le-of-lt}
 use native.Mathlib.Omega.{arith}

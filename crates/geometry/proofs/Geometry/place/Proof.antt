@@ -1,7 +1,7 @@
 -- `geometry::Geometry::place` meets its contract: each return is a case of what placement answers.
 -- Assumes nothing.
-use Prim.Native.Nat.{ℕ, _-_, _%_, _<_}
-use mathlib.Core.Bool.{true, false}
+use Prim.Native.Nat.{ℕ, _-_, _<_}
+use mathlib.Core.Bool.{false}
 use mathlib.Core.Path.{_≡_, ap, sym, _∙_}
 use native.Mathlib.Nat.{le-refl, mod-lt}
 use native.Mathlib.Omega.{arith}

@@ -1,16 +1,14 @@
+-- `geometry::limits::within` meets its contract.
+-- Assumes nothing.
 use borrow.Author.Tests.{le-leb, lt-leb}
 use Rattle.terms.specs.Sets.{within}
 use Rattle.geometry.proofs.limits.within.Statement.{statement}
 use Rattle.geometry.proofs.limits.within.Tie as tie
-use Rattle.geometry.proofs.limits.within.Reads as reads
-use Rattle.geometry.proofs.limits.within.Lts as lts
 
--- src/limits.rt:17:9
 returns : tie.Need-returns
 unfolding within
 returns c = simp (lt-leb _ _ (c .if1 .taken))
 
--- src/limits.rt:13:1
 returns-2 : tie.Need-returns-2
 unfolding within
 returns-2 c = simp (le-leb _ _ (c .if1 .left))

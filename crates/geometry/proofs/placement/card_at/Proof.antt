@@ -1,6 +1,6 @@
 -- `geometry::placement::card_at` meets its contract, by the laws of the turns.
 -- Assumes nothing.
-use mathlib.Core.Path.{_≡_, sym, _∙_}
+use mathlib.Core.Path.{sym, _∙_}
 use native.Mathlib.Nat.{le-of-lt}
 use borrow.Author.Needs.{needs}
 use Rattle.geometry.proofs.Turns.{cardIn-is, cardIn-none, turn-below, card-before, card-from}

@@ -1,0 +1,46 @@
+-- Refusal 2 of the image and of the work store, by the code's test on the length: `image.len() != state.image_size()`.
+-- Assumes nothing.
+use Prim.Native.Nat.{ℕ}
+use mathlib.Core.Bool.{true, false}
+use mathlib.Core.List.{List}
+use mathlib.Core.Path.{_≡_, sym, _∙_}
+use lib.Dec.{eqb}
+use lib.ListN.{length}
+use borrow.Author.Tests.{eqb-true, eq-eqb, ne-eqb, not-false}
+use Rattle.geometry.specs.Asked.{imageSizeIn, workSizeIn}
+use Rattle.geometry.specs.Limits.{beyondState, geometryOf}
+use Rattle.geometry.specs.Store.{imageSize, workSize, imageWrong, workWrong}
+use Rattle.geometry.specs.declared.State.{State}
+use Rattle.geometry.proofs.Asked.{BoundsOf, imageSizeIn-is, workSizeIn-is}
+use Rattle.geometry.proofs.Bounds.{within-limits}
+
+module _ (st : State) where
+  -- what refusal 1 leaves, of a state
+  pub state-bounds : beyondState st ≡ false → BoundsOf st
+  state-bounds e = within-limits (geometryOf st) (st .out) e
+
+  module _ (l : List ℕ) where
+    pub image-right : BoundsOf st → length l ≡ imageSizeIn st → imageWrong st l ≡ false
+    unfolding imageWrong
+    image-right b e = simp (eq-eqb _ _ (e ∙ imageSizeIn-is st b))
+
+    pub image-other : BoundsOf st → ¬ (length l ≡ imageSizeIn st) → imageWrong st l ≡ true
+    unfolding imageWrong
+    image-other b differ = simp (ne-eqb _ _ (λ e. differ (e ∙ sym (imageSizeIn-is st b))))
+
+    pub work-right : BoundsOf st → length l ≡ workSizeIn st → workWrong st l ≡ false
+    unfolding workWrong
+    work-right b e = simp (eq-eqb _ _ (e ∙ workSizeIn-is st b))
+
+    pub work-other : BoundsOf st → ¬ (length l ≡ workSizeIn st) → workWrong st l ≡ true
+    unfolding workWrong
+    work-other b differ = simp (ne-eqb _ _ (λ e. differ (e ∙ sym (workSizeIn-is st b))))
+
+    -- what refusal 2 leaves
+    pub image-length : imageWrong st l ≡ false → length l ≡ imageSize (st .cards) (st .stripes) (st .block)
+    unfolding imageWrong
+    image-length e = eqb-true _ _ (not-false (eqb (length l) (imageSize (st .cards) (st .stripes) (st .block))) e)
+
+    pub work-length : workWrong st l ≡ false → length l ≡ workSize (st .cards) (st .block) (st .records)
+    unfolding workWrong
+    work-length e = eqb-true _ _ (not-false (eqb (length l) (workSize (st .cards) (st .block) (st .records))) e)

@@ -1,0 +1,39 @@
+-- What a state answers of its sizes and blocks, whatever its numbers are: 0, or no byte, where there is no such block.
+-- Assumes nothing.
+use Prim.Native.Nat.{ℕ}
+use mathlib.Core.Bool.{cond, not, _&&_}
+use mathlib.Core.List.{List, []}
+use Rattle.terms.specs.Lists.{part}
+use Rattle.geometry.specs.Store.{imageSize, workSize, cellAt, writeAt, readAt, imageWrong, workWrong, legalState, inImage, inWork}
+use Rattle.geometry.specs.declared.State.{State}
+
+-- the sizes of the image and of the work store
+unfoldable pub imageSizeIn : State → ℕ
+imageSizeIn st = cond (legalState st) (imageSize (st .cards) (st .stripes) (st .block)) 0
+
+unfoldable pub workSizeIn : State → ℕ
+workSizeIn st = cond (legalState st) (workSize (st .cards) (st .block) (st .records)) 0
+
+-- where card c's block of stripe s starts in the image
+unfoldable pub cellIn : State → ℕ → ℕ → ℕ
+cellIn st c s = cond (inImage st c s) (cellAt (st .stripes) (st .block) c s) 0
+
+-- where record r's block to write of position j starts in the work store, and its block read
+unfoldable pub writeIn : State → ℕ → ℕ → ℕ
+writeIn st r j = cond (inWork st r j) (writeAt (st .cards) (st .block) r j) 0
+
+unfoldable pub readIn : State → ℕ → ℕ → ℕ
+readIn st r j = cond (inWork st r j) (readAt (st .cards) (st .block) r j) 0
+
+-- these blocks, as parts of an image or a work store of the right length
+unfoldable pub cellPart : State → ℕ → ℕ → List ℕ → List ℕ
+cellPart st c s image =
+    cond (inImage st c s && not (imageWrong st image)) (part (cellAt (st .stripes) (st .block) c s) (st .block) image) []
+
+unfoldable pub writePart : State → ℕ → ℕ → List ℕ → List ℕ
+writePart st r j work =
+    cond (inWork st r j && not (workWrong st work)) (part (writeAt (st .cards) (st .block) r j) (st .block) work) []
+
+unfoldable pub readPart : State → ℕ → ℕ → List ℕ → List ℕ
+readPart st r j work =
+    cond (inWork st r j && not (workWrong st work)) (part (readAt (st .cards) (st .block) r j) (st .block) work) []

@@ -1,0 +1,70 @@
+-- The bytes of the card that is out may turn to anything: the world stays sure, since nothing in it rests on them.
+-- Assumes nothing.
+use Prim.Native.Nat.{ℕ, _-_, _≤_, _<_}
+use mathlib.Core.Bool.{Bool, true, false}
+use mathlib.Core.List.{List}
+use mathlib.Core.Path.{_≡_, refl, sym, _∙_}
+use native.Mathlib.Omega.{arith}
+use Rattle.geometry.proofs.Bounds.{Bounds, within-limits}
+use Rattle.geometry.specs.Limits.{geometryOf}
+use Rattle.geometry.specs.Placement.{cardAt, positionOf, outIn}
+use Rattle.geometry.specs.Placing.{Placing}
+use Rattle.geometry.specs.declared.State.{State}
+use Rattle.record.specs.Life.{isOpen, unitsOf, missingIn}
+use Rattle.stripe.proofs.Bytes.{bytes}
+use Rattle.stripe.proofs.Kept.{decayed-idle, decayed-faithful}
+use Rattle.history.specs.Account.{Account}
+use Rattle.history.specs.History.{Decayed}
+use Rattle.history.specs.Promise.{recordAt}
+use Rattle.history.specs.World.{World}
+use Rattle.history.proofs.Invariant.{Working, Sure, cellsOf}
+use Rattle.history.proofs.Placed.{layout}
+use Rattle.history.proofs.Places.{out-position}
+use Rattle.history.proofs.Tables.{fit, sound-elim, open-not-free}
+
+module _ (w : World) (a : Account) (sure : Sure w a) (image′ : List ℕ) (decayed : Decayed (w .state) (w .image) image′) where
+  abbrev st : State
+  st = w .state
+
+  limits : Bounds (st .cards) (st .stripes) (st .block) (st .records)
+  limits = within-limits (geometryOf st) (st .out) (sure .right .limits)
+
+  -- a position that is not missing is on a card that works
+  same-cell : (s b p : ℕ) → s < st .stripes → b < st .block → p ≤ unitsOf st → ¬ (p ≡ missingIn st s) → cellsOf st image′ s b p ≡ cellsOf st (w .image) s b p
+  same-cell s b p hs hb l d =
+      let placing = layout (st .cards) (omega (arith, limits .cards-low)) in
+      let hp : p < st .cards = omega (arith, limits .cards-low) in
+      decayed .same-bytes (cardAt (st .cards) s p) s b (placing .card-below s p) hs hb
+      (λ e. d (out-position (st .cards) placing s (outIn st s) p hp e))
+
+  works : (i : ℕ) → i < st .records → isOpen (recordAt w i) ≡ true → Working st (w .work) image′ (a .row) (a .entry i) i (recordAt w i)
+  works i h o =
+      let r = recordAt w i in
+      let hs = fit st r (sound-elim st (w .table) (sure .right .is-sound) .each i (omega (arith, sure .right .table-right))) (open-not-free r o) .stripe-below in
+      let was = sure .working i h o in
+      record {
+        proper = was .proper;
+        faithful = λ b hb.
+            decayed-faithful bytes (unitsOf st) (missingIn st (r .stripe)) _ _ _ _ (cellsOf st image′ (r .stripe) b)
+            (λ p l d. same-cell (r .stripe) b p hs hb l d) (was .faithful b hb);
+      }
+
+  pub decay-sure : Sure (record { state = st; table = w .table; work = w .work; image = image′ }) a
+  decay-sure =
+      record {
+        right = record {
+          limits = sure .right .limits;
+          image-right = decayed .same-length ∙ sure .right .image-right;
+          table-right = sure .right .table-right;
+          work-right = sure .right .work-right;
+          is-sound = sure .right .is-sound;
+          whole = sure .right .whole;
+        };
+        row-size = sure .row-size;
+        entries = sure .entries;
+        resting = λ s h free-now b hb.
+            decayed-idle bytes (unitsOf st) (missingIn st s) _ _ (cellsOf st image′ s b) (λ p l d. same-cell s b p h hb l d)
+            (sure .resting s h free-now b hb);
+        working = works;
+        read = sure .read;
+      }

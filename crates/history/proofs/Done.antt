@@ -1,0 +1,236 @@
+-- An accepted step whose card works: it is done. While a step is wanting the record works on; with the last one its stripe rests on the row
+-- that the request leaves, and a read has the row's units.
+-- Assumes nothing.
+use Prim.Native.Nat.{ℕ, _+_, _-_, _*_, _≤_, _<_}
+use mathlib.Core.Bool.{Bool, true, false, cond, not, _&&_}
+use mathlib.Core.List.{List, []}
+use mathlib.Core.Path.{_≡_, refl, sym, ap, _∙_, subst}
+use native.Mathlib.Omega.{arith}
+use borrow.Author.Tests.{eqb-true, lt-ltb}
+use lib.Dec.{eqb, ltb}
+use lib.ListN.{length, getD, set}
+use lib.Seq.{ext-getD}
+use Rattle.terms.specs.Lists.{part}
+use Rattle.terms.specs.Sets.{bit}
+use Rattle.terms.proofs.Lists.{length-part, getD-part}
+use Rattle.terms.proofs.Rows.{true≢false}
+use Rattle.geometry.proofs.Apart.{read-inside}
+use Rattle.geometry.specs.Placement.{blockOf}
+use Rattle.geometry.specs.Store.{readAt}
+use Rattle.geometry.specs.declared.State.{State}
+use Rattle.graph.specs.Order.{after, complete}
+use Rattle.graph.specs.Steps.{Step, stepOf, masked}
+use Rattle.graph.specs.Sums.{sumsToRead}
+use Rattle.record.specs.Life.{isFree, isOpen, isFinished, isWrite, unitsOf, chosenAt, missingIn, stepped}
+use Rattle.record.specs.declared.Record.{Record}
+use Rattle.array.proofs.Frames.{gotByte}
+use Rattle.array.proofs.Passed.{Ready}
+use Rattle.array.proofs.Steps.{Standing, step-work-length, step-image-length, step-got-other, step-new-other, step-cell-other}
+use Rattle.array.specs.Stepping.{meetsOut, workAfter, imageAfter}
+use Rattle.stripe.proofs.Bytes.{bytes}
+use Rattle.stripe.proofs.Counts.{step-proper}
+use Rattle.stripe.proofs.Ends.{ended-idle, ended-read}
+use Rattle.stripe.proofs.Kept.{done-faithful}
+use Rattle.stripe.specs.Blocks.{changed}
+use Rattle.stripe.specs.Invariant.{Proper, Faithful}
+use Rattle.stripe.specs.Request.{Request, advanced}
+use Rattle.history.specs.Account.{Account, Entry, counted}
+use Rattle.history.specs.Promise.{recordAt, blocksRead}
+use Rattle.history.specs.Row.{unitsOfRow}
+use Rattle.history.specs.World.{World}
+use Rattle.history.proofs.Gather.{gathered-cong}
+use Rattle.history.proofs.Invariant.{Matches, Working, Resting, Sure, requestOf, viewOf}
+use Rattle.history.proofs.Placed.{layout}
+use Rattle.history.proofs.Near.{faithful-near, two-below}
+use Rattle.history.proofs.Places.{block-below}
+use Rattle.history.proofs.Records.{stepped-fit, request-advanced}
+use Rattle.history.proofs.Rows.{rowOf, afterRow, row-unit, after-elsewhere, after-size}
+use Rattle.history.proofs.Step.{limits, fits, works, matches, no-other, is-ready, within, counted-matches, misses}
+use Rattle.history.proofs.Tables.{Fit, fit-sound, finished-not-open, open-not-finished}
+use Rattle.history.proofs.Turn.{Turn, turned}
+use Rattle.history.proofs.View.{done-near}
+
+module _ (w : World) (a : Account) (sure : Sure w a) (i k : ℕ) (ok : Ready (w .state) (w .table) (w .work) (w .image) i k)
+    (working : meetsOut (missingIn (w .state) (recordAt w i .stripe)) (stepOf (unitsOf (w .state)) k) ≡ false) where
+  abbrev st : State
+  st = w .state
+
+  abbrev r : Record
+  r = recordAt w i
+
+  abbrev e : Entry
+  e = a .entry i
+
+  abbrev n : ℕ
+  n = unitsOf st
+
+  abbrev x : ℕ
+  x = missingIn st (r .stripe)
+
+  abbrev step : Step
+  step = stepOf n k
+
+  abbrev done : Record
+  done = stepped st r k
+
+  abbrev work′ : List ℕ
+  work′ = workAfter st i r step (w .work) (w .image)
+
+  abbrev image′ : List ℕ
+  image′ = imageAfter st i r step (w .work) (w .image)
+
+  -- no step of the graph is wanting after this one
+  abbrev last : Bool
+  last = complete n (r .graph) (r .mask) (chosenAt st r) (after (r .done) k)
+
+  some-card : 0 < st .cards
+  some-card = omega (arith, limits w a sure i k ok .cards-low)
+
+  standing : Standing st (w .work) (w .image) i r
+  standing =
+      record {
+        placing = layout (st .cards) some-card;
+        some-card = some-card;
+        image-right = sure .right .image-right;
+        work-right = sure .right .work-right;
+        record-below = ok .record-below;
+        stripe-below = fits w a sure i k ok .stripe-below;
+        x-below = x-below;
+      }
+    where
+      x-below : sumsToRead (r .graph) ≡ true → chosenAt st r < st .cards
+      x-below two =
+          let l : chosenAt st r ≤ n = two-below n x (requestOf st r) (works w a sure i k ok .proper) (two-is two) in
+          omega (arith, some-card)
+        where
+          two-is : sumsToRead (r .graph) ≡ true → r .graph ≡ 2
+          two-is f = eqb-true (r .graph) 2 (unfold sumsToRead in f)
+
+  -- ---- the record's numbers and the stripe's bytes after the step
+
+  proper : Proper n x (requestOf st done)
+  proper =
+      subst (λ (q : Request). Proper n x q) (sym (request-advanced st r k))
+      (step-proper n x (requestOf st r) (works w a sure i k ok .proper) k (is-ready w a sure i k ok))
+
+  faithful : (b : ℕ) → b < st .block
+      → Faithful bytes n x (requestOf st done) (rowOf st (a .row) (r .stripe) b) (rowOf st (afterRow st (a .row) e) (r .stripe) b)
+      (viewOf st work′ image′ i (r .stripe) b)
+  unfolding stepped advanced
+  faithful b hb =
+      faithful-near bytes n x (requestOf st done) _ _ _ _ (two-below n x (requestOf st done) proper)
+      (done-near st (w .work) (w .image) i r standing b hb x step (within w a sure i k ok))
+      (done-faithful bytes n x (requestOf st r) _ _ _ (works w a sure i k ok .proper) (works w a sure i k ok .faithful b hb) k
+      (is-ready w a sure i k ok) (misses x step working))
+
+  sound-done : Fit st done
+  sound-done = stepped-fit st r k x (fits w a sure i k ok) proper
+
+  matches-done : (t : Bool) → Matches st done (counted st (a .row) e t)
+  unfolding stepped
+  matches-done t = counted-matches w a sure i k ok done t refl refl refl refl
+
+  -- ---- a step is wanting
+
+  module _ (wanting : last ≡ false) where
+    works-on : Working st work′ image′ (a .row) (counted st (a .row) e false) i done
+    unfolding stepped counted afterRow
+    works-on = record { proper = proper; faithful = faithful }
+
+    is-open : isOpen done ≡ true
+    unfolding stepped
+    is-open = rw wanting
+
+    turn-on : Turn w a i (r .stripe) done work′ image′ (a .row) (counted st (a .row) e false)
+    unfolding stepped
+    turn-on =
+        record {
+          below = ok .record-below;
+          same-work = step-work-length st (w .work) (w .image) i r standing step (within w a sure i k ok);
+          same-image = step-image-length st (w .work) (w .image) i r standing step (within w a sure i k ok);
+          got-others = step-got-other st (w .work) (w .image) i r standing step (within w a sure i k ok);
+          new-others = step-new-other st (w .work) (w .image) i r standing step (within w a sure i k ok);
+          cell-others = step-cell-other st (w .work) (w .image) i r standing step (within w a sure i k ok);
+          row-others = λ t u d h l. refl;
+          row-size = sure .row-size;
+          old-here = λ o. refl;
+          new-here = λ o. refl;
+          alone = no-other w a sure i k ok;
+          own-sound = fit-sound st done sound-done;
+          own-entry = λ f. matches-done false;
+          own-working = λ o. works-on;
+          own-read = λ f g. true≢false (sym f ∙ open-not-finished done is-open);
+          own-resting = λ h o. true≢false (sym is-open ∙ o);
+        }
+
+    pub done-sure : Sure (record { state = st; table = set (w .table) i done; work = work′; image = image′ })
+        (record { row = a .row; entry = changed (a .entry) i (counted st (a .row) e false) })
+    done-sure = turned w a sure i (r .stripe) done work′ image′ (a .row) (counted st (a .row) e false) turn-on
+
+  -- ---- it was the last
+
+  module _ (complete-now : last ≡ true) where
+    is-finished : isFinished done ≡ true
+    unfolding stepped
+    is-finished = rw complete-now
+
+    rests : Resting st image′ (afterRow st (a .row) e) (r .stripe)
+    unfolding stepped
+    rests b hb = ended-idle bytes n x (requestOf st done) _ _ _ proper (faithful b hb) complete-now
+
+    -- a read's block of unit u is the row's
+    unit-read : isWrite done ≡ false → (u : ℕ) → u < n → bit u (r .mask) ≡ true
+        → part (readAt (st .cards) (st .block) i u) (st .block) work′ ≡ a .row (blockOf (st .cards) (r .stripe) u)
+    unfolding stepped masked
+    unit-read reading u hu m =
+        ext-getD 0 _ _ (long ∙ sym short)
+        (λ b h.
+        let hb : b < st .block = omega (arith, long) in
+        getD-part (readAt (st .cards) (st .block) i u) (st .block) work′ b 0 hb
+        ∙ ended-read bytes n x (requestOf st done) _ _ _ proper (faithful b hb) complete-now reading u (rw (lt-ltb u n hu) m)
+        ∙ row-unit st (a .row) (r .stripe) b u hu)
+      where
+        long : length (part (readAt (st .cards) (st .block) i u) (st .block) work′) ≡ st .block
+        long =
+            length-part (readAt (st .cards) (st .block) i u) (st .block) work′
+            (omega (
+              arith,
+              sure .right .work-right,
+              step-work-length st (w .work) (w .image) i r standing step (within w a sure i k ok),
+              read-inside (st .cards) (st .block) (st .records) i u (ok .record-below) (omega arith),
+            ))
+
+        short : length (a .row (blockOf (st .cards) (r .stripe) u)) ≡ st .block
+        short = sure .row-size (blockOf (st .cards) (r .stripe) u) (block-below (st .cards) (r .stripe) u hu (st .stripes) (standing .stripe-below))
+
+    units-read : isWrite done ≡ false → blocksRead st work′ i (done .mask) ≡ counted st (a .row) e true .due
+    unfolding stepped counted blocksRead unitsOfRow
+    units-read reading =
+        rw (sym (matches w a sure i k ok .same-kind) ∙ reading, ← matches w a sure i k ok .same-mask, ← matches w a sure i k ok .same-stripe)
+        (gathered-cong (r .mask) n _ _ (unit-read reading))
+
+    turn-last : Turn w a i (r .stripe) done work′ image′ (afterRow st (a .row) e) (counted st (a .row) e true)
+    unfolding stepped
+    turn-last =
+        record {
+          below = ok .record-below;
+          same-work = step-work-length st (w .work) (w .image) i r standing step (within w a sure i k ok);
+          same-image = step-image-length st (w .work) (w .image) i r standing step (within w a sure i k ok);
+          got-others = step-got-other st (w .work) (w .image) i r standing step (within w a sure i k ok);
+          new-others = step-new-other st (w .work) (w .image) i r standing step (within w a sure i k ok);
+          cell-others = step-cell-other st (w .work) (w .image) i r standing step (within w a sure i k ok);
+          row-others = λ t u d h l. after-elsewhere st (a .row) e t u (λ f. d (matches w a sure i k ok .same-stripe ∙ f)) l;
+          row-size = λ L h. after-size st (a .row) e (matches w a sure i k ok .paid) L (sure .row-size L h);
+          old-here = λ o. refl;
+          new-here = λ o. refl;
+          alone = no-other w a sure i k ok;
+          own-sound = fit-sound st done sound-done;
+          own-entry = λ f. matches-done true;
+          own-working = λ o. true≢false (sym o ∙ finished-not-open done is-finished);
+          own-read = λ f g. units-read g;
+          own-resting = λ h o. rests;
+        }
+
+    pub finished-sure : Sure (record { state = st; table = set (w .table) i done; work = work′; image = image′ })
+        (record { row = afterRow st (a .row) e; entry = changed (a .entry) i (counted st (a .row) e true) })
+    finished-sure = turned w a sure i (r .stripe) done work′ image′ (afterRow st (a .row) e) (counted st (a .row) e true) turn-last

@@ -1,0 +1,127 @@
+-- The records that calls make are sound: at admission, after a done step, after a fresh choice.
+-- Assumes nothing.
+use Prim.Native.Nat.{ℕ, _+_, _*_, _^_, _≤_, _<_}
+use mathlib.Core.Bool.{Bool, true, false, cond, not, _&&_, _||_}
+use mathlib.Core.Path.{_≡_, refl, sym, ap, _∙_}
+use native.Mathlib.Omega.{arith}
+use borrow.Author.Tests.{eq-eqb, eqb-false, ltb-true, le-leb, not-true}
+use lib.Dec.{ltb, leb, eqb}
+use Rattle.terms.specs.Sets.{within}
+use Rattle.terms.proofs.Rows.{and-left, and-right, and-both}
+use Rattle.geometry.specs.Limits.{none}
+use Rattle.geometry.specs.Placement.{outIn, missingAt}
+use Rattle.geometry.specs.declared.State.{State}
+use Rattle.graph.proofs.Laws.{closed-none}
+use Rattle.graph.specs.Choice.{choose}
+use Rattle.graph.specs.Order.{after, complete, closed}
+use Rattle.record.specs.Life.{isOpen, isFinished, isWrite, unitsOf, chosenAt, missingIn, admitted, stepped, afresh}
+use Rattle.record.specs.Sound.{legalMask, legalChosen, rightGraph, rightSteps, lacksNone, rightCount}
+use Rattle.record.specs.declared.Record.{Record}
+use Rattle.stripe.proofs.Counts.{count-bound, open-bound}
+use Rattle.stripe.specs.Invariant.{Proper}
+use Rattle.stripe.specs.Request.{begun, advanced, chosenAfresh}
+use Rattle.history.proofs.Fresh.{fresh-wanting, choice-legal}
+use Rattle.history.proofs.Invariant.{requestOf}
+use Rattle.history.proofs.Tables.{Fit}
+
+-- a legal mask as facts
+pub mask-some : (n mask : ℕ) → legalMask n mask ≡ true → ¬ (mask ≡ 0)
+unfolding legalMask
+mask-some n mask e = eqb-false mask 0 (not-true (eqb mask 0) (and-left (not (eqb mask 0)) (ltb mask (2 ^ n)) e))
+
+pub mask-units : (n mask : ℕ) → legalMask n mask ≡ true → mask < 2 ^ n
+unfolding legalMask
+mask-units n mask e = ltb-true mask (2 ^ n) (and-right (not (eqb mask 0)) (ltb mask (2 ^ n)) e)
+
+-- the same requests, as a stripe's theory has them
+pub request-begun : (st : State) (write : Bool) (s mask : ℕ)
+    → requestOf st (admitted st write s mask) ≡ begun (unitsOf st) write mask (missingIn st s)
+unfolding admitted begun
+request-begun st true s mask = refl
+request-begun st false s mask = refl
+
+pub request-advanced : (st : State) (r : Record) (k : ℕ) → requestOf st (stepped st r k) ≡ advanced (requestOf st r) k
+unfolding stepped advanced
+request-advanced st r k = refl
+
+pub request-afresh : (st : State) (r : Record)
+    → requestOf st (afresh st r) ≡ chosenAfresh (unitsOf st) (requestOf st r) (missingIn st (r .stripe))
+unfolding afresh chosenAfresh
+request-afresh st r = refl
+
+-- the chosen-with card is the one that is missing now
+chosen-now : (st : State) (r : Record) → r .chosen ≡ outIn st (r .stripe) → legalChosen st r ≡ true
+unfolding legalChosen
+chosen-now st r e = go (eqb (r .chosen) none)
+  where
+    go : (t : Bool) → (t || eqb (r .chosen) (outIn st (r .stripe))) ≡ true
+    go true = refl
+    go false = eq-eqb (r .chosen) (outIn st (r .stripe)) e
+
+pub admitted-fit : (st : State) (write : Bool) (s mask : ℕ) → s < st .stripes → legalMask (unitsOf st) mask ≡ true
+    → Fit st (admitted st write s mask)
+unfolding admitted rightGraph rightSteps rightCount lacksNone
+admitted-fit st write s mask h m =
+    record {
+      going = refl;
+      kind = kind write;
+      stripe-below = h;
+      mask-legal = m;
+      graph-legal = choice-legal (unitsOf st) mask (missingIn st s) write;
+      chosen-legal = chosen-now st (admitted st write s mask) refl;
+      right-graph = eq-eqb (choose (unitsOf st) write mask (missingIn st s)) _ (ap (λ (w : Bool). choose (unitsOf st) w mask (missingIn st s)) (sym (same write)));
+      right-steps = closed-none (unitsOf st) (choose (unitsOf st) write mask (missingIn st s)) mask (missingIn st s);
+      right-count = and-both _ (leb 0 (2 * unitsOf st + 2))
+          (ap not (fresh-wanting (unitsOf st) mask (missingIn st s) (mask-some (unitsOf st) mask m) (mask-units (unitsOf st) mask m) write))
+          (le-leb 0 (2 * unitsOf st + 2) (omega arith));
+    }
+  where
+    kind : (w : Bool) → within 0 1 (cond w 1 0) ≡ true
+    kind true = unfold within in refl
+    kind false = unfold within in refl
+
+    same : (w : Bool) → eqb (cond w 1 0) 1 ≡ w
+    same true = refl
+    same false = refl
+
+pub stepped-fit : (st : State) (r : Record) (k x : ℕ) → Fit st r → Proper (unitsOf st) x (requestOf st (stepped st r k)) → Fit st (stepped st r k)
+unfolding stepped legalChosen rightGraph rightSteps rightCount lacksNone
+stepped-fit st r k x f p =
+    record {
+      going = going (complete (unitsOf st) (r .graph) (r .mask) (chosenAt st r) (after (r .done) k));
+      kind = f .kind;
+      stripe-below = f .stripe-below;
+      mask-legal = f .mask-legal;
+      graph-legal = f .graph-legal;
+      chosen-legal = f .chosen-legal;
+      right-graph = f .right-graph;
+      right-steps = p .in-order;
+      right-count = counted (complete (unitsOf st) (r .graph) (r .mask) (chosenAt st r) (after (r .done) k)) refl;
+    }
+  where
+    going : (t : Bool) → (eqb (cond t 2 1) 1 || eqb (cond t 2 1) 2) ≡ true
+    going true = refl
+    going false = refl
+
+    counted : (t : Bool) → complete (unitsOf st) (r .graph) (r .mask) (chosenAt st r) (after (r .done) k) ≡ t
+        → cond (eqb (cond t 2 1) 1) (not t && leb (r .count + 1) (2 * unitsOf st + 2)) (t && leb (r .count + 1) (2 * unitsOf st + 3)) ≡ true
+    counted true e = le-leb (r .count + 1) (2 * unitsOf st + 3) (count-bound (unitsOf st) x (requestOf st (stepped st r k)) p)
+    counted false e = le-leb (r .count + 1) (2 * unitsOf st + 2) (open-bound (unitsOf st) x (requestOf st (stepped st r k)) p e)
+
+pub afresh-fit : (st : State) (r : Record) (x : ℕ) → Fit st r → Proper (unitsOf st) x (requestOf st (afresh st r)) → Fit st (afresh st r)
+unfolding afresh rightGraph rightSteps rightCount lacksNone
+afresh-fit st r x f p =
+    let y = missingIn st (r .stripe) in
+    let wanting = fresh-wanting (unitsOf st) (r .mask) y (p .some-unit) (p .units-only) (isWrite r) in
+    record {
+      going = refl;
+      kind = f .kind;
+      stripe-below = f .stripe-below;
+      mask-legal = f .mask-legal;
+      graph-legal = choice-legal (unitsOf st) (r .mask) y (isWrite r);
+      chosen-legal = chosen-now st (afresh st r) refl;
+      right-graph = eq-eqb (choose (unitsOf st) (isWrite r) (r .mask) y) (choose (unitsOf st) (isWrite r) (r .mask) y) refl;
+      right-steps = closed-none (unitsOf st) (choose (unitsOf st) (isWrite r) (r .mask) y) (r .mask) y;
+      right-count = and-both _ (leb (r .count + 1) (2 * unitsOf st + 2)) (ap not wanting)
+          (le-leb (r .count + 1) (2 * unitsOf st + 2) (open-bound (unitsOf st) x (requestOf st (afresh st r)) p wanting));
+    }

@@ -1,0 +1,83 @@
+-- No answer and no byte of a working card depends on the bytes that a card holds while it is out: of one call.
+-- Assumes nothing.
+use Prim.Native.Nat.{ℕ, suc, _+_, _-_, _*_, _≤_, _<_}
+use mathlib.Core.Bool.{Bool, true, false, cond, not, _&&_, _||_}
+use mathlib.Core.List.{List, [], _∷_}
+use mathlib.Core.Logic.{_⊎_, inl, inr}
+use mathlib.Core.Path.{_≡_, refl, sym, ap, ap₂, _∙_, subst}
+use native.Mathlib.Decide.{decLt}
+use native.Mathlib.Omega.{arith}
+use borrow.Author.Tests.{eqb-true, eqb-false, eq-eqb}
+use lib.Dec.{eqb, ltb}
+use lib.ListN.{length, getD, set}
+use Rattle.terms.specs.Lists.{part, put}
+use Rattle.terms.specs.Reply.{Reply, accepted, refused, refusedOr13}
+use Rattle.terms.specs.Sets.{lowest}
+use Rattle.terms.proofs.Lists.{part-cong}
+use Rattle.terms.proofs.Rows.{true≢false, truth}
+use Rattle.terms.proofs.Sets.{xorTo-cong, lowest-cong}
+use Rattle.geometry.proofs.Apart.{cell-inside}
+use Rattle.geometry.proofs.Bounds.{Bounds, within-limits}
+use Rattle.geometry.specs.Limits.{none, geometryOf}
+use Rattle.geometry.specs.Placement.{cardAt, positionOf, outIn}
+use Rattle.geometry.specs.Placing.{Placing}
+use Rattle.geometry.specs.Store.{cellAt, imageWrong, imageSize}
+use Rattle.geometry.specs.declared.State.{State}
+use Rattle.graph.specs.Steps.{Step, rd, xr, wr, nil, stepOf}
+use Rattle.parity.specs.Parity.{byteAt, parityByte, wrongByte, wrongStripe, rightParity, disagreement}
+use Rattle.record.specs.Life.{free, unitsOf, missingIn}
+use Rattle.record.specs.Sound.{held}
+use Rattle.record.specs.declared.Record.{Record}
+use Rattle.array.specs.Refusals.{admitRefusal, stepRefusal, scanRefusal}
+use Rattle.array.specs.Scan.{scanReply}
+use Rattle.history.specs.History.{Decayed}
+
+-- two images of a state that agree on the cards that work
+module _ (st : State) (image image′ : List ℕ) (same : Decayed st image image′) where
+  -- they are as long, so a call is refused for both or for neither
+  pub wrong-same : imageWrong st image′ ≡ imageWrong st image
+  unfolding imageWrong
+  wrong-same = ap (λ (k : ℕ). not (eqb k (imageSize (st .cards) (st .stripes) (st .block)))) (same .same-length)
+
+  pub admit-same : (table : List Record) (work : List ℕ) (write : Bool) (s mask : ℕ) (payload : List ℕ)
+      → admitRefusal st table work image′ write s mask payload ≡ admitRefusal st table work image write s mask payload
+  unfolding admitRefusal
+  admit-same table work write s mask payload = rw wrong-same
+
+  pub step-same : (table : List Record) (work : List ℕ) (i k : ℕ) → stepRefusal st table work image′ i k ≡ stepRefusal st table work image i k
+  unfolding stepRefusal
+  step-same table work i k = rw wrong-same
+
+  -- ---- with none out they agree on every card
+
+  module _ (none-out : (s : ℕ) → ¬ (outIn st s < st .cards)) where
+    byte-same : (c s b : ℕ) → c < st .cards → s < st .stripes → b < st .block
+        → byteAt (st .stripes) (st .block) image′ c s b ≡ byteAt (st .stripes) (st .block) image c s b
+    byte-same c s b hc hs hb = same .same-bytes c s b hc hs hb (λ e. none-out s (omega arith))
+
+    parity-same : (s b : ℕ) → s < st .stripes → b < st .block
+        → parityByte (st .cards) (st .stripes) (st .block) image′ s b ≡ parityByte (st .cards) (st .stripes) (st .block) image s b
+    unfolding parityByte
+    parity-same s b hs hb = xorTo-cong (st .cards) _ _ (λ c hc. byte-same c s b hc hs hb)
+
+    wrong-byte-same : (s : ℕ) → s < st .stripes
+        → wrongByte (st .cards) (st .stripes) (st .block) image′ s ≡ wrongByte (st .cards) (st .stripes) (st .block) image s
+    unfolding wrongByte
+    wrong-byte-same s hs = lowest-cong (st .block) _ _ (λ b hb. ap (λ (v : ℕ). not (eqb v 0)) (parity-same s b hs hb))
+
+    pub wrong-stripe-same : (pass : ℕ → Bool)
+        → wrongStripe (st .cards) (st .stripes) (st .block) image′ pass ≡ wrongStripe (st .cards) (st .stripes) (st .block) image pass
+    unfolding wrongStripe
+    wrong-stripe-same pass =
+        lowest-cong (st .stripes) _ _ (λ s hs. ap (λ (v : ℕ). not (pass s) && ltb v (st .block)) (wrong-byte-same s hs))
+
+    pub right-same : (pass : ℕ → Bool)
+        → rightParity (st .cards) (st .stripes) (st .block) image′ pass ≡ rightParity (st .cards) (st .stripes) (st .block) image pass
+    unfolding rightParity
+    right-same pass = ap (λ (v : ℕ). eqb v (st .stripes)) (wrong-stripe-same pass)
+
+    pub disagreement-same : (pass : ℕ → Bool) → wrongStripe (st .cards) (st .stripes) (st .block) image pass < st .stripes
+        → disagreement (st .cards) (st .stripes) (st .block) image′ pass ≡ disagreement (st .cards) (st .stripes) (st .block) image pass
+    unfolding disagreement
+    disagreement-same pass h =
+        rw (wrong-stripe-same pass, wrong-byte-same (wrongStripe (st .cards) (st .stripes) (st .block) image pass) h)

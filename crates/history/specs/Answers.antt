@@ -1,0 +1,55 @@
+-- The calls of a history and their answers, and the same calls made of a world with no decay between them.
+-- Assumes nothing.
+use Prim.Native.Nat.{ℕ}
+use mathlib.Core.List.{List, [], _∷_}
+use mathlib.Core.Path.{_≡_}
+use Rattle.terms.specs.Reply.{Reply}
+use Rattle.history.specs.Account.{Account}
+use Rattle.history.specs.History.{Decayed, History, opened, next, openedWorld}
+use Rattle.history.specs.World.{World, Event, admit, step, report, collect, scan, decay, play}
+
+-- what a call's caller sees: the reply, and the result buffer where one was lent
+pub record Answer : Type 0 where
+  pub reply : Reply
+  pub result : List ℕ
+
+abbrev pub answerTo : World → Event → Answer
+answerTo w e = record { reply = play w e .reply; result = play w e .result }
+
+-- something of a call in front of a list; a decay is no call and puts nothing there
+unfoldable pub ifCall : {A : Type 0} → Event → A → List A → List A
+ifCall (admit write s mask payload) x l = x ∷ l
+ifCall (step i k) x l = x ∷ l
+ifCall (report c) x l = x ∷ l
+ifCall (collect i result) x l = x ∷ l
+ifCall scan x l = x ∷ l
+ifCall (decay image) x l = l
+
+-- the world that a history starts with, its calls and their answers, the latest first
+unfoldable pub startOf : {w : World} {a : Account} → History w a → World
+startOf (opened g out table work image ok) = openedWorld g out table work image
+startOf (next h e p) = startOf h
+
+unfoldable pub callsOf : {w : World} {a : Account} → History w a → List Event
+callsOf (opened g out table work image ok) = []
+callsOf (next h e p) = ifCall e e (callsOf h)
+
+unfoldable pub answersOf : {w : World} {a : Account} → History w a → List Answer
+answersOf (opened g out table work image ok) = []
+answersOf (next {w} h e p) = ifCall e (answerTo w e) (answersOf h)
+
+-- the same calls made of a world one after the other, with no decay between them: the world that they leave, and their answers
+unfoldable pub ran : World → List Event → World
+ran w [] = w
+ran w (e ∷ es) = play (ran w es) e .world
+
+unfoldable pub answered : World → List Event → List Answer
+answered w [] = []
+answered w (e ∷ es) = answerTo (ran w es) e ∷ answered w es
+
+-- two worlds that differ at most in the bytes of the card that is out
+pub record Alike (w v : World) : Type 0 where
+  pub same-state : v .state ≡ w .state
+  pub same-table : v .table ≡ w .table
+  pub same-work : v .work ≡ w .work
+  pub same-image : Decayed (w .state) (w .image) (v .image)

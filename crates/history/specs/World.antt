@@ -1,0 +1,77 @@
+-- What goes from call to call, what can happen to it, and what comes of it: by the same definitions that the calls' contracts cite.
+-- Assumes nothing.
+use Prim.Native.Nat.{ℕ}
+use mathlib.Core.Bool.{Bool}
+use mathlib.Core.List.{List, []}
+use Rattle.terms.specs.Reply.{Reply, accepted}
+use Rattle.geometry.specs.declared.State.{State}
+use Rattle.record.specs.declared.Record.{Record}
+use Rattle.array.specs.Admission.{admission}
+use Rattle.array.specs.Collection.{collection}
+use Rattle.geometry.specs.Report.{reporting}
+use Rattle.array.specs.Scan.{scanReply}
+use Rattle.array.specs.Stepping.{stepping}
+
+-- the state, the table, the work store and the image
+pub record World : Type 0 where
+  pub state : State
+  pub table : List Record
+  pub work : List ℕ
+  pub image : List ℕ
+
+-- a call with its arguments; or decay, after which the image is this one
+pub data Event : Type 0 where
+  -- write or not, the stripe, the unit mask, the payload
+  admit : Bool → ℕ → ℕ → List ℕ → Event
+  -- the record, the step number
+  step : ℕ → ℕ → Event
+  -- the card
+  report : ℕ → Event
+  -- the record, the result buffer as it is lent
+  collect : ℕ → List ℕ → Event
+  scan : Event
+  decay : List ℕ → Event
+
+-- what is answered, and the world and the result buffer that are left; no buffer is lent but to collect
+pub record Outcome : Type 0 where
+  pub reply : Reply
+  pub world : World
+  pub result : List ℕ
+
+-- what comes of an event. A decay answers nothing
+unfoldable pub play : World → Event → Outcome
+play w (admit write s mask payload) =
+    let a = admission (w .state) (w .table) (w .work) (w .image) write s mask payload in
+    record {
+      reply = a .reply;
+      world = record { state = w .state; table = a .table; work = a .work; image = w .image };
+      result = [];
+    }
+play w (step i k) =
+    let a = stepping (w .state) (w .table) (w .work) (w .image) i k in
+    record {
+      reply = a .reply;
+      world = record { state = w .state; table = a .table; work = a .work; image = a .image };
+      result = [];
+    }
+play w (report c) =
+    let a = reporting (w .state) c in
+    record {
+      reply = a .reply;
+      world = record { state = a .state; table = w .table; work = w .work; image = w .image };
+      result = [];
+    }
+play w (collect i result) =
+    let a = collection (w .state) (w .table) (w .work) i result in
+    record {
+      reply = a .reply;
+      world = record { state = w .state; table = a .table; work = w .work; image = w .image };
+      result = a .result;
+    }
+play w scan = record { reply = scanReply (w .state) (w .table) (w .image); world = w; result = [] }
+play w (decay image) =
+    record {
+      reply = accepted 0 0;
+      world = record { state = w .state; table = w .table; work = w .work; image = image };
+      result = [];
+    }

@@ -1,0 +1,2 @@
+-- The law of packing.
+pub mod Unpacking

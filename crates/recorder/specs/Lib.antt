@@ -1,0 +1,2 @@
+-- How a C function's answer is packed.
+pub mod Packing

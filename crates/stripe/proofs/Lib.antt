@@ -1,0 +1,24 @@
+-- Why a stripe loses nothing, by subject.
+pub mod Acts
+pub mod Sums
+pub mod Chosen
+pub mod Tally
+pub mod Places
+pub mod Done
+pub mod Totals
+pub mod Steps
+pub mod Readied
+pub mod NewRow
+pub mod Afresh
+pub mod Kept
+pub mod Ends
+pub mod Sizes
+pub mod Counts
+pub mod Opens
+pub mod Alike
+pub mod Heart
+pub mod Runs
+pub mod Bytes
+pub mod Computing
+pub mod Reached
+pub mod NeverAgain

@@ -1,0 +1,2 @@
+-- The lent table, copied out.
+pub mod Copy

@@ -1,0 +1,103 @@
+//! Placement, both ways, against the independent implementation.
+use harness::numbers::{wild, Scatter};
+use harness::plain::{placement, Reply};
+use harness::recorder;
+
+fn same_place(cards: u64, stripes: u64, block: u64) {
+    assert_eq!(
+        recorder::place(cards, stripes, block),
+        placement::place(cards, stripes, block),
+        "place({cards}, {stripes}, {block})"
+    );
+}
+
+fn same_block_at(cards: u64, stripes: u64, card: u64, stripe: u64) {
+    assert_eq!(
+        recorder::block_at(cards, stripes, card, stripe),
+        placement::block_at(cards, stripes, card, stripe),
+        "block_at({cards}, {stripes}, {card}, {stripe})"
+    );
+}
+
+/// Every block, card and stripe of an array, and some beyond each.
+fn whole_array(cards: u64, stripes: u64) {
+    for block in 0..cards * stripes + 2 {
+        same_place(cards, stripes, block);
+    }
+    for card in 0..cards + 2 {
+        for stripe in 0..stripes + 2 {
+            same_block_at(cards, stripes, card, stripe);
+        }
+    }
+}
+
+#[test]
+fn examples_of_the_paper() {
+    assert_eq!(recorder::place(5, 5, 0), Reply::accepted(0, 0));
+    assert_eq!(recorder::place(5, 5, 7), Reply::accepted(2, 1));
+    assert_eq!(recorder::place(5, 5, 10), Reply::accepted(0, 2));
+    assert_eq!(recorder::block_at(5, 5, 3, 1), Reply::accepted(1, 0));
+    assert_eq!(recorder::place(5, 5, 19), Reply::accepted(4, 4));
+    assert_eq!(recorder::place(5, 5, 20), Reply::refused(5));
+    for (cards, stripes) in [(2, 5), (9, 5), (5, 0), (5, 1025)] {
+        assert_eq!(recorder::place(cards, stripes, 0), Reply::refused(1));
+        assert_eq!(recorder::block_at(cards, stripes, 0, 0), Reply::refused(1));
+    }
+}
+
+#[test]
+fn every_array_of_up_to_64_stripes() {
+    for cards in 3..=8 {
+        for stripes in 1..=64 {
+            whole_array(cards, stripes);
+        }
+    }
+}
+
+#[test]
+fn the_limits() {
+    for cards in 0..=10 {
+        for stripes in [0, 1, 2, 1022, 1023, 1024, 1025, 1026] {
+            whole_array(cards, stripes);
+        }
+    }
+}
+
+#[test]
+fn wild_numbers_everywhere() {
+    let numbers = wild();
+    for &cards in &numbers {
+        for &stripes in &numbers {
+            for &third in &numbers {
+                same_place(cards, stripes, third);
+                for &fourth in &numbers {
+                    same_block_at(cards, stripes, third, fourth);
+                }
+            }
+        }
+    }
+}
+
+#[test]
+fn scattered_numbers() {
+    let mut scatter = Scatter::new(1);
+    for _ in 0..200_000 {
+        let (cards, stripes) = (3 + scatter.below(6), 1 + scatter.below(1024));
+        same_place(cards, stripes, scatter.below(8 * 1024));
+        same_block_at(cards, stripes, scatter.below(9), scatter.below(1100));
+        same_place(scatter.any(), scatter.any(), scatter.any());
+        same_block_at(scatter.any(), scatter.any(), scatter.any(), scatter.any());
+    }
+}
+
+#[test]
+fn each_way_is_the_other_s_inverse() {
+    for cards in 3..=8 {
+        for stripes in [1, 2, 3, 63, 64, 1024] {
+            for block in 0..(cards - 1) * stripes {
+                let at = recorder::place(cards, stripes, block);
+                assert_eq!(recorder::block_at(cards, stripes, at.first, at.second), Reply::accepted(0, block));
+            }
+        }
+    }
+}
