@@ -54,9 +54,29 @@ static void block_at(void)
     EXPECT(coppicetune_block_at(5, 1025, 0, 0), 1, 0, 0);
 }
 
+/* 3 cards, 2 stripes, blocks of 16 bytes, 1 record. */
+static void scan(void)
+{
+    uint8_t image[96] = {0};
+    EXPECT(coppicetune_scan(3, 2, 16, 1, 255, 0, image, 96), 0, 0, 0);
+    image[21] = 1; /* byte 5 of card 0's block of stripe 1 */
+    EXPECT(coppicetune_scan(3, 2, 16, 1, 255, 0, image, 96), 13, 1, 5);
+    image[32 + 15] = 0x80; /* byte 15 of card 1's block of stripe 0 */
+    EXPECT(coppicetune_scan(3, 2, 16, 1, 255, 0, image, 96), 13, 0, 15);
+    image[64 + 15] = 0x80; /* the same on card 2: that byte is right again */
+    EXPECT(coppicetune_scan(3, 2, 16, 1, 255, 0, image, 96), 13, 1, 5);
+    EXPECT(coppicetune_scan(3, 2, 16, 1, 2, 0, image, 96), 12, 0, 0);
+    EXPECT(coppicetune_scan(3, 2, 16, 1, 2, 1, image, 96), 4, 0, 0);
+    EXPECT(coppicetune_scan(3, 2, 16, 1, 2, 1, image, 95), 2, 0, 0);
+    EXPECT(coppicetune_scan(3, 2, 16, 1, 3, 1, image, 95), 1, 0, 0);
+    EXPECT(coppicetune_scan(3, 2, 24, 1, 255, 0, image, 96), 1, 0, 0);
+    EXPECT(coppicetune_scan(3, 2, 16, 1, 255, 0, image, 0), 2, 0, 0);
+}
+
 int main(void)
 {
     place();
     block_at();
+    scan();
     return wrong == 0 ? 0 : 1;
 }

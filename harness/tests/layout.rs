@@ -1,7 +1,7 @@
 //! The layout program, run on inputs good and bad: the whole output against the independent implementation's.
-use harness::numbers::Scatter;
 use harness::plain::layout;
 use harness::program::{output, output_of_pieces};
+use harness::random::Random;
 
 fn same(input: &[u8]) {
     assert_eq!(
@@ -92,7 +92,7 @@ fn long_inputs() {
 #[test]
 fn inputs_beside_good_ones() {
     // one byte of a good input changed, taken away or put in
-    let mut scatter = Scatter::new(2);
+    let mut scatter = Random::new(2);
     for _ in 0..150 {
         let mut input = format!("{} {}\n", 3 + scatter.below(6), 1 + scatter.below(1024)).into_bytes();
         let at = scatter.below(input.len() as u64) as usize;

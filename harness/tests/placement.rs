@@ -1,12 +1,13 @@
 //! Placement, both ways, against the independent implementation.
-use harness::numbers::{wild, Scatter};
-use harness::plain::{placement, Reply};
+use harness::calls::{Answer, Calls, Plain};
+use harness::numbers::wild;
+use harness::random::Random;
 use harness::recorder;
 
 fn same_place(cards: u64, stripes: u64, block: u64) {
     assert_eq!(
         recorder::place(cards, stripes, block),
-        placement::place(cards, stripes, block),
+        Answer::of(Plain.place(cards, stripes, block)),
         "place({cards}, {stripes}, {block})"
     );
 }
@@ -14,7 +15,7 @@ fn same_place(cards: u64, stripes: u64, block: u64) {
 fn same_block_at(cards: u64, stripes: u64, card: u64, stripe: u64) {
     assert_eq!(
         recorder::block_at(cards, stripes, card, stripe),
-        placement::block_at(cards, stripes, card, stripe),
+        Answer::of(Plain.block_at(cards, stripes, card, stripe)),
         "block_at({cards}, {stripes}, {card}, {stripe})"
     );
 }
@@ -33,15 +34,15 @@ fn whole_array(cards: u64, stripes: u64) {
 
 #[test]
 fn examples_of_the_paper() {
-    assert_eq!(recorder::place(5, 5, 0), Reply::accepted(0, 0));
-    assert_eq!(recorder::place(5, 5, 7), Reply::accepted(2, 1));
-    assert_eq!(recorder::place(5, 5, 10), Reply::accepted(0, 2));
-    assert_eq!(recorder::block_at(5, 5, 3, 1), Reply::accepted(1, 0));
-    assert_eq!(recorder::place(5, 5, 19), Reply::accepted(4, 4));
-    assert_eq!(recorder::place(5, 5, 20), Reply::refused(5));
+    assert_eq!(recorder::place(5, 5, 0), Answer::accepted(0, 0));
+    assert_eq!(recorder::place(5, 5, 7), Answer::accepted(2, 1));
+    assert_eq!(recorder::place(5, 5, 10), Answer::accepted(0, 2));
+    assert_eq!(recorder::block_at(5, 5, 3, 1), Answer::accepted(1, 0));
+    assert_eq!(recorder::place(5, 5, 19), Answer::accepted(4, 4));
+    assert_eq!(recorder::place(5, 5, 20), Answer::refused(5));
     for (cards, stripes) in [(2, 5), (9, 5), (5, 0), (5, 1025)] {
-        assert_eq!(recorder::place(cards, stripes, 0), Reply::refused(1));
-        assert_eq!(recorder::block_at(cards, stripes, 0, 0), Reply::refused(1));
+        assert_eq!(recorder::place(cards, stripes, 0), Answer::refused(1));
+        assert_eq!(recorder::block_at(cards, stripes, 0, 0), Answer::refused(1));
     }
 }
 
@@ -80,7 +81,7 @@ fn wild_numbers_everywhere() {
 
 #[test]
 fn scattered_numbers() {
-    let mut scatter = Scatter::new(1);
+    let mut scatter = Random::new(1);
     for _ in 0..200_000 {
         let (cards, stripes) = (3 + scatter.below(6), 1 + scatter.below(1024));
         same_place(cards, stripes, scatter.below(8 * 1024));
@@ -96,7 +97,7 @@ fn each_way_is_the_other_s_inverse() {
         for stripes in [1, 2, 3, 63, 64, 1024] {
             for block in 0..(cards - 1) * stripes {
                 let at = recorder::place(cards, stripes, block);
-                assert_eq!(recorder::block_at(cards, stripes, at.first, at.second), Reply::accepted(0, block));
+                assert_eq!(recorder::block_at(cards, stripes, at.first, at.second), Answer::accepted(0, block));
             }
         }
     }

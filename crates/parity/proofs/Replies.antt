@@ -20,7 +20,7 @@ use Rattle.parity.specs.Scan.{lookRefusal, lookReply, nothingHeld, idleS
 use Rattle.parity.proofs.Passing.{passes-none, looked-cong}
 
 -- the last row, 13: parity is right, or disagrees
-last-row : (right : Bool) (d : Reply)
+pub last-row : (right : Bool) (d : Reply)
     → cond right (accepted 0 0) d
     ≡ onAccept (firstRow (row (not right) 13 ∷ [])) (accepted 0 0) (refusedOr13 (firstRow (row (not right) 13 ∷ [])) d)
 unfolding firstRow

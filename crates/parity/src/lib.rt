@@ -19,7 +19,8 @@ pub enum Scan {
     Refused(u64),
 }
 
-// The block of a card in a stripe: a part of the image that starts in its middle.
+// The block of a card in a stripe: a part of the image that starts in its middle. Whoever calls it has tested once, for all blocks, what
+// geometry's `cell` tests at each.
 fn cell<'a>(
     image: &'a [u8],
     cards: usize,

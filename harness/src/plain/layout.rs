@@ -1,5 +1,5 @@
 //! What the layout program writes.
-use super::placement::{block_at, within_limits};
+use super::placement::{block_at, Role};
 
 /// A number that is written in decimal without leading zeros.
 fn number(text: &str) -> Option<u64> {
@@ -16,19 +16,20 @@ fn asked(input: &[u8]) -> Option<(u64, u64)> {
     let line = std::str::from_utf8(input).ok()?.strip_suffix('\n')?;
     let (cards, stripes) = line.split_once(' ')?;
     let (cards, stripes) = (number(cards)?, number(stripes)?);
-    if within_limits(cards, stripes) {
-        Some((cards, stripes))
-    } else {
-        None
-    }
+    // The first card of the first stripe is there, unless the numbers are beyond the limits.
+    block_at(cards, stripes, 0, 0).ok().map(|_| (cards, stripes))
 }
 
 /// One line for each stripe, ascending: the stripe, then for each card the block number, or P, with single spaces between.
 fn line(cards: u64, stripes: u64, stripe: u64) -> String {
     let mut words = vec![stripe.to_string()];
     for card in 0..cards {
-        let held = block_at(cards, stripes, card, stripe);
-        words.push(if held.first == 1 { "P".to_string() } else { held.second.to_string() });
+        words.push(
+            match block_at(cards, stripes, card, stripe).expect("a card and stripe of the array") {
+                Role::Block(block) => block.to_string(),
+                Role::Parity => "P".to_string(),
+            },
+        );
     }
     words.join(" ") + "\n"
 }

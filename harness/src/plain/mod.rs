@@ -1,22 +1,31 @@
-//! An independent implementation, written from the paper's text alone and kept as plain as that text: it searches where the proved
-//! code computes, and shares nothing with it.
+//! An independent implementation: document 01 read once more and written down in ordinary Rust, as plain as that text.
+//!
+//! It shares nothing with the library. Tests run both on the same input and compare every answer
+//! and every byte; the benchmark takes this one as its measure.
+//!
+//! - `refusal`: the refusal numbers
+//! - `placement`: where blocks are, both ways
+//! - `layout`: what the layout program writes
+//! - `state`: the numbers of an array, and their limits
+//! - `graph`: choosing a graph, its steps and what must come before each
+//! - `record`: request records, and when a table of them is sound
+//! - `blocks`: where blocks stand in the image and in the work store; copies and parity sums
+//! - `engine`: the calls
+//! - `row`: the array as its user sees it, a row of blocks
+
+pub mod blocks;
+pub mod engine;
+pub mod graph;
 pub mod layout;
 pub mod placement;
+pub mod record;
+pub mod refusal;
+pub mod row;
+pub mod state;
 
-/// An answer: its number, 0 where the call is accepted, and its values, 0 where it has none.
-#[derive(Clone, Copy, Debug, PartialEq, Eq)]
-pub struct Reply {
-    pub number: u64,
-    pub first: u64,
-    pub second: u64,
-}
-
-impl Reply {
-    pub fn accepted(first: u64, second: u64) -> Reply {
-        Reply { number: 0, first, second }
-    }
-
-    pub fn refused(number: u64) -> Reply {
-        Reply { number, first: 0, second: 0 }
-    }
-}
+pub use engine::{admit, check, collect, idle_scan, open, report, step, Progress};
+pub use placement::{block_at, place, Place, Role};
+pub use record::Record;
+pub use refusal::Refusal;
+pub use row::Row;
+pub use state::{State, NONE};

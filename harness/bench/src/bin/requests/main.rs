@@ -1,0 +1,156 @@
+//! Requests a second: the library through its C calls, and the plain engine.
+//!
+//! A request is an admission, all its steps in ascending order, and its collection. The last column
+//! is the part of the library's time in which no byte is copied or summed: what remains when the
+//! time of the bare copies and sums of the same request is taken away.
+//!
+//! Run it alone on the machine. It decides nothing: it prints a table, which docs/PERFORMANCE.md keeps.
+
+mod moves;
+
+use harness::calls::{pack, Answer, Calls, Plain, Record, State, Tested};
+use harness::plain::blocks::make_right;
+use harness::plain::graph::{members, Plan};
+use harness::plain::placement::card_at;
+use harness::random::Random;
+use std::time::{Duration, Instant};
+
+const STRIPES: u64 = 64;
+const RECORDS: u64 = 4;
+
+/// One kind of request.
+pub struct Task {
+    name: &'static str,
+    cards: u64,
+    block: u64,
+    write: bool,
+    /// How many units, from unit 0 on.
+    units: u64,
+    /// The position whose card is out.
+    out: Option<u64>,
+    graph: u64,
+}
+
+fn tasks(cards: u64, block: u64) -> [Task; 4] {
+    let all = cards - 1;
+    let half = all.div_ceil(2);
+    let task =
+        |name, write, units, out, graph| Task { name, cards, block, write, units, out, graph };
+    [
+        task("small write", true, 1, None, 3),
+        task("reconstruct write", true, half, None, 4),
+        task("large write", true, all, None, 5),
+        task("degraded read", false, 1, Some(0), 2),
+    ]
+}
+
+/// An open array, and a request that is made again and again on one stripe after another.
+pub struct Bench {
+    state: State,
+    table: Vec<Record>,
+    work: Vec<u8>,
+    image: Vec<u8>,
+    payload: Vec<u8>,
+    result: Vec<u8>,
+    mask: u64,
+    plan: Plan,
+    steps: Vec<u64>,
+    stripes: Vec<u64>,
+}
+
+impl Bench {
+    fn new(task: &Task) -> Bench {
+        let Task { cards, block, .. } = *task;
+        let out = task.out.map_or(255, |position| card_at(cards, 0, position));
+        let state = State { cards, stripes: STRIPES, block, records: RECORDS, out, lost: 0 };
+        let mut random = Random::new(cards);
+        let mut image = random.bytes(state.image_length() as usize);
+        make_right(&state, &mut image);
+        let mask = (1 << task.units) - 1;
+        let plan = Plan::new(state.units(), task.graph, mask, task.out);
+        let length = (task.units * block) as usize;
+        // A card holds the same position in every N-th stripe.
+        let apart = if task.out.is_some() { cards } else { 1 };
+        Bench {
+            state,
+            table: vec![Record::default(); RECORDS as usize],
+            work: vec![0; state.work_length() as usize],
+            image,
+            payload: random.bytes(if task.write { length } else { 0 }),
+            result: vec![0; length],
+            mask,
+            plan,
+            steps: members(plan.steps()).collect(),
+            stripes: (0..STRIPES).step_by(apart as usize).collect(),
+        }
+    }
+
+    /// One request from admission to collection; the collection's answer.
+    fn request<C: Calls>(&mut self, calls: &C, write: bool, stripe: u64) -> u64 {
+        let Bench { state, table, work, image, mask, payload, .. } = self;
+        let admitted = calls.admit(state, table, work, image, write as u64, stripe, *mask, payload);
+        let record = Answer::of(admitted).first;
+        for &step in &self.steps {
+            calls.step(state, table, work, image, record, step);
+        }
+        calls.collect(state, table, work, record, &mut self.result)
+    }
+
+    /// The request on every stripe in turn, each collected with the count that it should have.
+    fn round<C: Calls>(&mut self, calls: &C, write: bool) {
+        let collected = pack(0, self.steps.len() as u64, 0);
+        for at in 0..self.stripes.len() {
+            let answer = self.request(calls, write, self.stripes[at]);
+            assert_eq!(answer, collected);
+        }
+    }
+}
+
+/// The least time of a request, in seconds, of many rounds.
+struct Clock(f64);
+
+impl Clock {
+    fn time(&mut self, requests: usize, mut round: impl FnMut()) {
+        let start = Instant::now();
+        let mut rounds = 0;
+        while start.elapsed() < Duration::from_millis(5) {
+            round();
+            rounds += 1;
+        }
+        self.0 = self.0.min(start.elapsed().as_secs_f64() / (rounds * requests) as f64);
+    }
+}
+
+/// Times one task and prints its row.
+fn run(task: &Task) {
+    let mut bench = Bench::new(task);
+    let requests = bench.stripes.len();
+    let moves = moves::all(&bench, task);
+    let (mut tested, mut plain, mut bare) = (Clock(f64::MAX), Clock(f64::MAX), Clock(f64::MAX));
+    // The three take turns, so that a busy moment of the machine hits none of them alone.
+    for _ in 0..80 {
+        tested.time(requests, || bench.round(&Tested, task.write));
+        plain.time(requests, || bench.round(&Plain, task.write));
+        bare.time(requests, || moves::carry_out(&mut bench, &moves));
+    }
+    println!(
+        "| {} | {} | {} | {:.0} | {:.0} | {:.2} | {:.0} % |",
+        task.name,
+        task.cards,
+        task.block,
+        1.0 / tested.0,
+        1.0 / plain.0,
+        tested.0 / plain.0,
+        100.0 * (1.0 - bare.0 / tested.0).max(0.0),
+    );
+}
+
+fn main() {
+    println!("| request | N | B | library, requests/s | plain engine, requests/s | times slower | not bytes |");
+    println!("|---|---|---|---|---|---|---|");
+    for (cards, block) in [(8, 512), (4, 64)] {
+        for task in &tasks(cards, block) {
+            run(task);
+        }
+    }
+}

@@ -1,0 +1,101 @@
+//! The plain engine behind the C interface.
+
+use super::{pack, Calls, Record, State};
+use crate::plain::{self, Progress, Refusal, Role};
+
+pub struct Plain;
+
+/// The packed answer of a result, given the two values of an accepted one.
+fn answer<T>(result: Result<T, Refusal>, values: impl Fn(T) -> (u64, u64)) -> u64 {
+    match result {
+        Ok(value) => {
+            let (first, second) = values(value);
+            pack(0, first, second)
+        }
+        Err(Refusal::Parity { stripe, byte }) => pack(13, stripe, byte),
+        Err(refusal) => pack(refusal.number(), 0, 0),
+    }
+}
+
+impl Calls for Plain {
+    fn place(&self, cards: u64, stripes: u64, block: u64) -> u64 {
+        answer(plain::place(cards, stripes, block), |place| (place.card, place.stripe))
+    }
+
+    fn block_at(&self, cards: u64, stripes: u64, card: u64, stripe: u64) -> u64 {
+        answer(plain::block_at(cards, stripes, card, stripe), |role| match role {
+            Role::Block(block) => (0, block),
+            Role::Parity => (1, 0),
+        })
+    }
+
+    fn scan(&self, state: &State, image: &[u8]) -> u64 {
+        answer(plain::idle_scan(state, image), |()| (0, 0))
+    }
+
+    fn open(
+        &self,
+        state: &mut State,
+        table: &mut [Record],
+        work: &mut [u8],
+        image: &[u8],
+        cards: u64,
+        stripes: u64,
+        block: u64,
+        records: u64,
+        out: u64,
+    ) -> u64 {
+        let opened = plain::open(cards, stripes, block, records, out, table, work, image);
+        *state = opened.unwrap_or_default();
+        answer(opened, |_| (0, 0))
+    }
+
+    fn admit(
+        &self,
+        state: &State,
+        table: &mut [Record],
+        work: &mut [u8],
+        image: &[u8],
+        write: u64,
+        stripe: u64,
+        mask: u64,
+        payload: &[u8],
+    ) -> u64 {
+        let admitted = plain::admit(state, table, work, image, write != 0, stripe, mask, payload);
+        answer(admitted, |record| (record, 0))
+    }
+
+    fn step(
+        &self,
+        state: &State,
+        table: &mut [Record],
+        work: &mut [u8],
+        image: &mut [u8],
+        record: u64,
+        step: u64,
+    ) -> u64 {
+        answer(plain::step(state, table, work, image, record, step), |progress| match progress {
+            Progress::Done => (0, 0),
+            Progress::Afresh(graph) => (graph, 0),
+        })
+    }
+
+    fn report(&self, state: &mut State, card: u64) -> u64 {
+        answer(plain::report(state, card), |()| (0, 0))
+    }
+
+    fn collect(
+        &self,
+        state: &State,
+        table: &mut [Record],
+        work: &[u8],
+        record: u64,
+        result: &mut [u8],
+    ) -> u64 {
+        answer(plain::collect(state, table, work, record, result), |count| (count, 0))
+    }
+
+    fn check(&self, state: &State, table: &[Record], image: &[u8]) -> u64 {
+        answer(plain::check(state, table, image), |()| (0, 0))
+    }
+}

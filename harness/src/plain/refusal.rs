@@ -1,0 +1,62 @@
+//! The thirteen refusals.
+
+/// Why a call was refused. Lower numbers are tested first (collect tests 10 before 7).
+#[derive(Clone, Copy, PartialEq, Eq, Debug)]
+pub enum Refusal {
+    /// N, S, B or K is beyond its limits, or the card out is neither below N nor 255.
+    Limits,
+    /// The image, table or work store is of another length.
+    Length,
+    /// The table is not sound.
+    Unsound,
+    /// The array is lost.
+    Lost,
+    /// A block, card, stripe or record number is out of range.
+    Range,
+    /// The mask is zero or has a bit at n or above.
+    Mask,
+    /// The payload or the result buffer does not suit the request.
+    Buffer,
+    /// The stripe is held.
+    Held,
+    /// No record is free.
+    Full,
+    /// The record is not open (step) or not finished (collect).
+    Phase,
+    /// The step is not in the graph, is done, or lacks one that must come before.
+    Step,
+    /// That card is already out (report), or a card is out (scan).
+    Out,
+    /// Parity disagrees; this is the lowest stripe and the lowest byte in it where it does.
+    Parity { stripe: u64, byte: u64 },
+}
+
+impl Refusal {
+    /// The paper's number.
+    pub fn number(self) -> u64 {
+        match self {
+            Refusal::Limits => 1,
+            Refusal::Length => 2,
+            Refusal::Unsound => 3,
+            Refusal::Lost => 4,
+            Refusal::Range => 5,
+            Refusal::Mask => 6,
+            Refusal::Buffer => 7,
+            Refusal::Held => 8,
+            Refusal::Full => 9,
+            Refusal::Phase => 10,
+            Refusal::Step => 11,
+            Refusal::Out => 12,
+            Refusal::Parity { .. } => 13,
+        }
+    }
+}
+
+/// Refuses with `why` unless the condition holds.
+pub fn demand(condition: bool, why: Refusal) -> Result<(), Refusal> {
+    if condition {
+        Ok(())
+    } else {
+        Err(why)
+    }
+}

@@ -1,0 +1,68 @@
+//! The numbers of an array, and their limits.
+
+use super::placement::position_on;
+
+/// The card out when none is.
+pub const NONE: u64 = 255;
+
+/// The state of an array, as the caller keeps it.
+#[repr(C)]
+#[derive(Clone, Copy, PartialEq, Eq, Debug, Default)]
+pub struct State {
+    /// N, 3 to 8.
+    pub cards: u64,
+    /// S, 1 to 1,024.
+    pub stripes: u64,
+    /// B, 16 to 512, a multiple of 16.
+    pub block: u64,
+    /// K, 1 to 8.
+    pub records: u64,
+    /// The card that is out, or 255.
+    pub out: u64,
+    /// Not 0 once a second card was reported.
+    pub lost: u64,
+}
+
+impl State {
+    /// An array with one record and no card out.
+    pub fn whole(cards: u64, stripes: u64, block: u64) -> State {
+        State { cards, stripes, block, records: 1, out: NONE, lost: 0 }
+    }
+
+    /// N, S, B, K and the card out are all within their limits.
+    pub fn within_limits(&self) -> bool {
+        (3..=8).contains(&self.cards)
+            && (1..=1024).contains(&self.stripes)
+            && (16..=512).contains(&self.block)
+            && self.block % 16 == 0
+            && (1..=8).contains(&self.records)
+            && (self.out < self.cards || self.out == NONE)
+    }
+
+    /// n, the number of data units in a stripe.
+    pub fn units(&self) -> u64 {
+        self.cards - 1
+    }
+
+    /// N, S and B as lengths.
+    pub fn sizes(&self) -> (usize, usize, usize) {
+        (self.cards as usize, self.stripes as usize, self.block as usize)
+    }
+
+    pub fn image_length(&self) -> u64 {
+        self.cards * self.stripes * self.block
+    }
+
+    pub fn work_length(&self) -> u64 {
+        2 * self.cards * self.block * self.records
+    }
+
+    /// The position of the stripe that is on this card; none for card 255.
+    pub fn position_of(&self, stripe: u64, card: u64) -> Option<u64> {
+        if card == NONE {
+            None
+        } else {
+            Some(position_on(self.cards, stripe, card))
+        }
+    }
+}

@@ -1,0 +1,151 @@
+//! Calls that are accepted, and single changes that bring about each refusal.
+
+use crate::pair::{Call, Side};
+use harness::calls::{Record, State};
+use harness::plain::blocks::in_image;
+
+/// A call with all that it is lent.
+#[derive(Clone)]
+pub struct Ask {
+    pub side: Side,
+    pub call: Call,
+    pub result: Vec<u8>,
+}
+
+/// A refusal number and a change that brings it about.
+pub struct Fault {
+    pub number: u64,
+    pub what: &'static str,
+    pub make: fn(&mut Ask),
+}
+
+pub fn fault(number: u64, what: &'static str, make: fn(&mut Ask)) -> Fault {
+    Fault { number, what, make }
+}
+
+/// What is lent: N = 4, S = 5, B = 32, K = 4, no card out, all bytes zero. Record 0
+/// is an open write on stripe 1, record 1 a finished read of units 0 and 2, record 2 is free, record
+/// 3 is an open read on stripe 4.
+pub fn side() -> Side {
+    let state = State { cards: 4, stripes: 5, block: 32, records: 4, out: 255, lost: 0 };
+    let mut side = Side::for_state(state);
+    side.table[0] = Record {
+        phase: 1,
+        write: 1,
+        stripe: 1,
+        mask: 1,
+        graph: 3,
+        chosen: 255,
+        done: 0b1001,
+        count: 2,
+    };
+    side.table[1] =
+        Record { phase: 2, write: 0, stripe: 2, mask: 5, graph: 1, chosen: 255, done: 5, count: 2 };
+    side.table[3] =
+        Record { phase: 1, write: 0, stripe: 4, mask: 7, graph: 1, chosen: 255, done: 1, count: 1 };
+    side
+}
+
+pub fn ask(call: Call) -> Ask {
+    Ask { side: side(), call, result: vec![0xEE; 64] }
+}
+
+// Changes of what is lent.
+
+/// One item fewer.
+pub fn shorten<T>(list: &mut Vec<T>) {
+    list.pop();
+}
+
+pub fn limits() -> Vec<Fault> {
+    vec![
+        fault(1, "N = 2", |ask| ask.side.state.cards = 2),
+        fault(1, "N = 9", |ask| ask.side.state.cards = 9),
+        fault(1, "S = 0", |ask| ask.side.state.stripes = 0),
+        fault(1, "S = 1025", |ask| ask.side.state.stripes = 1025),
+        fault(1, "B = 0", |ask| ask.side.state.block = 0),
+        fault(1, "B = 24", |ask| ask.side.state.block = 24),
+        fault(1, "B = 528", |ask| ask.side.state.block = 528),
+        fault(1, "K = 0", |ask| ask.side.state.records = 0),
+        fault(1, "K = 9", |ask| ask.side.state.records = 9),
+        fault(1, "out = N", |ask| ask.side.state.out = 4),
+        fault(1, "out = 254", |ask| ask.side.state.out = 254),
+        fault(1, "out = 256", |ask| ask.side.state.out = 256),
+    ]
+}
+
+pub fn image_length() -> Vec<Fault> {
+    vec![
+        fault(2, "image short", |ask| shorten(&mut ask.side.image)),
+        fault(2, "image long", |ask| ask.side.image.push(0)),
+    ]
+}
+
+pub fn table_length() -> Vec<Fault> {
+    vec![
+        fault(2, "table short", |ask| shorten(&mut ask.side.table)),
+        fault(2, "table long", |ask| ask.side.table.push(Record::default())),
+    ]
+}
+
+pub fn work_length() -> Vec<Fault> {
+    vec![
+        fault(2, "work store short", |ask| shorten(&mut ask.side.work)),
+        fault(2, "work store long", |ask| ask.side.work.push(0)),
+    ]
+}
+
+pub fn unsound() -> Vec<Fault> {
+    vec![
+        fault(3, "a free record not zero", |ask| {
+            ask.side.table[2] = Record { chosen: 255, ..Record::default() }
+        }),
+        fault(3, "phase 3", |ask| ask.side.table[0].phase = 3),
+        fault(3, "kind 2", |ask| ask.side.table[0].write = 2),
+        fault(3, "stripe S", |ask| ask.side.table[0].stripe = 5),
+        fault(3, "mask 0", |ask| ask.side.table[0].mask = 0),
+        fault(3, "mask bit n", |ask| ask.side.table[0].mask = 9),
+        fault(3, "graph 0", |ask| ask.side.table[0].graph = 0),
+        fault(3, "graph 7", |ask| ask.side.table[0].graph = 7),
+        fault(3, "another graph", |ask| {
+            ask.side.table[0].graph = 4;
+            ask.side.table[0].done = 0;
+        }),
+        fault(3, "chosen with a card that is in", |ask| ask.side.table[3].chosen = 3),
+        fault(3, "a step of no graph done", |ask| ask.side.table[0].done |= 1 << 9),
+        fault(3, "a step of another unit done", |ask| ask.side.table[0].done |= 1 << 1),
+        fault(3, "parity written before the exclusive or", |ask| ask.side.table[0].done |= 1 << 8),
+        fault(3, "exclusive or before a read", |ask| ask.side.table[0].done = 1 << 4),
+        fault(3, "open and counts 2n+3", |ask| ask.side.table[0].count = 9),
+        fault(3, "open and lacks nothing", |ask| ask.side.table[3].done = 7),
+        fault(3, "finished and lacks a step", |ask| ask.side.table[1].done = 4),
+        fault(3, "finished and counts 2n+4", |ask| ask.side.table[1].count = 10),
+        fault(3, "two open on a stripe", |ask| {
+            ask.side.table[0].stripe = 4;
+        }),
+    ]
+}
+
+pub fn lost() -> Vec<Fault> {
+    vec![
+        fault(4, "lost", |ask| ask.side.state.lost = 1),
+        fault(4, "lost by another number", |ask| ask.side.state.lost = 1 << 63),
+    ]
+}
+
+/// A byte of parity in an idle stripe.
+pub fn wrong_parity() -> Vec<Fault> {
+    vec![
+        fault(13, "first byte of stripe 0", |ask| spoil(&mut ask.side, 0, 0, 0)),
+        fault(13, "last byte of the last idle stripe", |ask| spoil(&mut ask.side, 3, 1, 31)),
+    ]
+}
+
+pub fn spoil(side: &mut Side, stripe: u64, position: u64, byte: usize) {
+    let state = State { cards: 4, stripes: 5, block: 32, records: 4, out: 255, lost: 0 };
+    let start = in_image(&state, stripe, position).start;
+    // The image may be short by now; a byte that is not there is wrong anyway.
+    if let Some(byte) = side.image.get_mut(start + byte) {
+        *byte ^= 0x80;
+    }
+}

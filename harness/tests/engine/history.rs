@@ -1,0 +1,51 @@
+//! Random histories, thousands of them, each from its own seed.
+
+use crate::story::tell;
+use crate::tally::Tally;
+use crate::tested;
+
+const STORIES: u64 = 6_000;
+
+#[test]
+fn random_histories() {
+    // Two at a time: each half of the seeds has a thread of its own.
+    let half = |odd: u64| {
+        let mut tally = Tally::default();
+        for seed in (0..STORIES).filter(|seed| seed % 2 == odd) {
+            match tell(&tested(), seed, false) {
+                Ok(met) => tally.add(&met),
+                Err(what) => panic!("{what}"),
+            }
+        }
+        tally
+    };
+    let mut tally = Tally::default();
+    std::thread::scope(|scope| {
+        for run in [scope.spawn(|| half(0)), scope.spawn(|| half(1))] {
+            match run.join() {
+                Ok(met) => tally.add(&met),
+                Err(what) => std::panic::resume_unwind(what),
+            }
+        }
+    });
+    nothing_was_left_out(&tally);
+}
+
+/// The histories met every graph, every way to choose afresh, every refusal that a caller can bring
+/// about in an array that it keeps in order, and a longest request for every N.
+fn nothing_was_left_out(tally: &Tally) {
+    tally.demand("graph", &[1, 2, 3, 4, 5, 6]);
+    tally.demand("finished", &[1, 2, 3, 4, 5, 6]);
+    // From graph to graph: 10 times the old one and the new one.
+    let afresh = [12, 34, 36, 43, 44, 46, 55, 56];
+    tally.demand("afresh", &afresh);
+    tally.only("afresh", &afresh);
+    tally.demand("longest", &[3, 4, 5, 6, 7, 8]);
+    tally.demand("open", &[0, 13]);
+    tally.demand("admit", &[0, 4, 5, 6, 7, 8, 9]);
+    tally.demand("step", &[0, 4, 5, 10, 11]);
+    tally.demand("report", &[0, 4, 5, 12]);
+    tally.demand("collect", &[0, 4, 5, 7, 10]);
+    tally.demand("check", &[0, 4, 12]);
+    tally.demand("scan", &[0, 4, 12, 13]);
+}

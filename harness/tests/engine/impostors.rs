@@ -1,0 +1,237 @@
+//! The impostors of document 01 and some more, so that the histories are seen to find them.
+//!
+//! Each is the plain engine with one thing bent. Compared call by call, none gets through a story;
+//! those that document 01 names do not either when they are held to the caller's knowledge alone.
+
+use crate::story::tell;
+use harness::calls::{Answer, Calls, Plain, Record, State};
+use std::cell::Cell;
+
+#[derive(Clone, Copy, PartialEq, Eq, Debug)]
+enum Bend {
+    /// Nothing is bent.
+    Honest,
+    /// Refuses everything.
+    RefusesAll,
+    /// Answers a constant, and does nothing.
+    Constant,
+    /// Finishes requests and writes nothing.
+    WritesNothing,
+    /// Works for the first request and pretends later.
+    PretendsLater,
+    /// The step count is invented.
+    InventsCount,
+    /// Two requests may share a stripe.
+    SharesStripes,
+    /// Collect clears the rest of the buffer.
+    ClearsRest,
+    /// A refused admission has already copied its payload.
+    CopiesEarly,
+    /// Scan does not pass over held stripes.
+    ScansHeld,
+    /// A degraded read gives what the dead card holds.
+    TrustsTheDead,
+}
+
+struct Impostor {
+    bend: Bend,
+    admitted: Cell<u64>,
+}
+
+impl Impostor {
+    fn new(bend: Bend) -> Impostor {
+        Impostor { bend, admitted: Cell::new(0) }
+    }
+
+    /// The fixed answer of one that does no work at all.
+    fn fixed(&self) -> Option<u64> {
+        match self.bend {
+            Bend::RefusesAll => Some(1),
+            Bend::Constant => Some(0),
+            _ => None,
+        }
+    }
+}
+
+/// The table with open requests on this stripe made finished ones, which hold nothing.
+fn let_go(table: &[Record], stripe: u64) -> Vec<Record> {
+    let finished =
+        Record { phase: 2, write: 0, stripe, mask: 1, graph: 1, chosen: 255, done: 1, count: 1 };
+    let holds = |record: &Record| record.phase == 1 && record.stripe == stripe;
+    table.iter().map(|record| if holds(record) { finished } else { *record }).collect()
+}
+
+impl Calls for Impostor {
+    fn place(&self, cards: u64, stripes: u64, block: u64) -> u64 {
+        Plain.place(cards, stripes, block)
+    }
+
+    fn block_at(&self, cards: u64, stripes: u64, card: u64, stripe: u64) -> u64 {
+        Plain.block_at(cards, stripes, card, stripe)
+    }
+
+    fn scan(&self, state: &State, image: &[u8]) -> u64 {
+        self.fixed().unwrap_or_else(|| Plain.scan(state, image))
+    }
+
+    fn open(
+        &self,
+        state: &mut State,
+        table: &mut [Record],
+        work: &mut [u8],
+        image: &[u8],
+        cards: u64,
+        stripes: u64,
+        block: u64,
+        records: u64,
+        out: u64,
+    ) -> u64 {
+        self.fixed().unwrap_or_else(|| {
+            Plain.open(state, table, work, image, cards, stripes, block, records, out)
+        })
+    }
+
+    fn admit(
+        &self,
+        state: &State,
+        table: &mut [Record],
+        work: &mut [u8],
+        image: &[u8],
+        write: u64,
+        stripe: u64,
+        mask: u64,
+        payload: &[u8],
+    ) -> u64 {
+        if let Some(fixed) = self.fixed() {
+            return fixed;
+        }
+        let mut answer = Plain.admit(state, table, work, image, write, stripe, mask, payload);
+        if self.bend == Bend::SharesStripes && answer == 8 {
+            let mut others = let_go(table, stripe);
+            answer = Plain.admit(state, &mut others, work, image, write, stripe, mask, payload);
+            let taken = Answer::of(answer);
+            if taken.number == 0 {
+                table[taken.first as usize] = others[taken.first as usize];
+            }
+        }
+        if self.bend == Bend::CopiesEarly && answer == 9 {
+            let front = payload.len().min(work.len());
+            work[..front].copy_from_slice(&payload[..front]);
+        }
+        if Answer::of(answer).number == 0 {
+            self.admitted.set(self.admitted.get() + 1);
+        }
+        answer
+    }
+
+    fn step(
+        &self,
+        state: &State,
+        table: &mut [Record],
+        work: &mut [u8],
+        image: &mut [u8],
+        record: u64,
+        step: u64,
+    ) -> u64 {
+        if let Some(fixed) = self.fixed() {
+            return fixed;
+        }
+        let pretends = match self.bend {
+            Bend::WritesNothing => true,
+            Bend::PretendsLater => self.admitted.get() > 1,
+            _ => false,
+        };
+        if pretends {
+            return Plain.step(state, table, work, &mut image.to_vec(), record, step);
+        }
+        if self.bend == Bend::TrustsTheDead && state.out != 255 {
+            let healthy = State { out: 255, ..*state };
+            let answer = Plain.step(&healthy, table, work, image, record, step);
+            if Answer::of(answer).number == 0 {
+                return answer;
+            }
+        }
+        Plain.step(state, table, work, image, record, step)
+    }
+
+    fn report(&self, state: &mut State, card: u64) -> u64 {
+        self.fixed().unwrap_or_else(|| Plain.report(state, card))
+    }
+
+    fn collect(
+        &self,
+        state: &State,
+        table: &mut [Record],
+        work: &[u8],
+        record: u64,
+        result: &mut [u8],
+    ) -> u64 {
+        if let Some(fixed) = self.fixed() {
+            return fixed;
+        }
+        let request = table.get(record as usize).copied();
+        let answer = Plain.collect(state, table, work, record, result);
+        let Answer { number, first: count, .. } = Answer::of(answer);
+        if number == 0 && self.bend == Bend::ClearsRest {
+            let units =
+                request.filter(|request| request.write == 0).map_or(0, |request| request.ones());
+            result[(units * state.block) as usize..].fill(0);
+        }
+        if number == 0 && self.bend == Bend::InventsCount {
+            return (count.max(2) - 1) << 16;
+        }
+        answer
+    }
+
+    fn check(&self, state: &State, table: &[Record], image: &[u8]) -> u64 {
+        if let Some(fixed) = self.fixed() {
+            return fixed;
+        }
+        match self.bend {
+            Bend::ScansHeld if Plain.check(state, table, image) == 0 => Plain.scan(state, image),
+            _ => Plain.check(state, table, image),
+        }
+    }
+}
+
+/// Some story among the first few shows the impostor up.
+fn found(bend: Bend, alone: bool) -> bool {
+    (0..200).any(|seed| tell(&Impostor::new(bend), seed, alone).is_err())
+}
+
+#[test]
+fn none_gets_through_a_comparison() {
+    for bend in [
+        Bend::RefusesAll,
+        Bend::Constant,
+        Bend::WritesNothing,
+        Bend::PretendsLater,
+        Bend::InventsCount,
+        Bend::SharesStripes,
+        Bend::ClearsRest,
+        Bend::CopiesEarly,
+        Bend::ScansHeld,
+        Bend::TrustsTheDead,
+    ] {
+        assert!(found(bend, false), "{bend:?} got through");
+    }
+    assert!(!found(Bend::Honest, false));
+}
+
+#[test]
+fn the_callers_knowledge_is_enough() {
+    for bend in [
+        Bend::RefusesAll,
+        Bend::Constant,
+        Bend::WritesNothing,
+        Bend::PretendsLater,
+        Bend::InventsCount,
+        Bend::SharesStripes,
+        Bend::ClearsRest,
+        Bend::ScansHeld,
+        Bend::TrustsTheDead,
+    ] {
+        assert!(found(bend, true), "{bend:?} got through");
+    }
+    assert!(!found(Bend::Honest, true));
+}

@@ -1,0 +1,72 @@
+//! The smallest and the largest array there can be, and all sizes of a block.
+
+use crate::pair::{Call, Pair};
+use crate::story::some_side;
+use crate::tested;
+use harness::calls::{Answer, State};
+use harness::plain::blocks::in_image;
+use harness::plain::Row;
+use harness::random::Random;
+
+fn call(pair: &mut Pair, call: Call) -> Answer {
+    pair.call(&call, &mut Vec::new()).unwrap_or_else(|what| panic!("{what}"))
+}
+
+/// A request for all units of the last stripe, from admission to collection; what it read.
+fn request(pair: &mut Pair, write: u64, payload: Vec<u8>) -> Vec<u8> {
+    let state = pair.theirs.state;
+    let (stripe, mask) = (state.stripes - 1, (1 << state.units()) - 1);
+    assert_eq!(call(pair, Call::Admit { write, stripe, mask, payload }), Answer::of(0));
+    for step in 0..=2 * state.units() + 2 {
+        call(pair, Call::Step { record: 0, step });
+    }
+    let mut result = vec![0; (state.units() * state.block) as usize];
+    let collected = pair.call(&Call::Collect { record: 0 }, &mut result).unwrap();
+    assert_eq!(collected.number, 0);
+    result
+}
+
+/// Finds a wrong last byte, then opens, writes the last stripe, loses a card and reads it back.
+fn run(state: State) {
+    let calls = tested();
+    let mut random = Random::new(state.image_length());
+    let side = some_side(&mut random, state);
+    let mut row = Row::of(&state, &side.image);
+    let mut pair = Pair::new(&calls, side);
+    let State { cards, stripes, block, records, .. } = state;
+    let open = Call::Open { cards, stripes, block, records, out: 255 };
+    let (stripe, mask) = (stripes - 1, (1 << state.units()) - 1);
+
+    let last = in_image(&state, stripe, 1).end - 1;
+    pair.theirs.image[last] ^= 1;
+    pair.ours.image[last] ^= 1;
+    let wrong = Answer { number: 13, first: stripe, second: block - 1 };
+    assert_eq!(call(&mut pair, open.clone()), wrong);
+    pair.theirs.image[last] ^= 1;
+    pair.ours.image[last] ^= 1;
+    assert_eq!(call(&mut pair, open), Answer::of(0));
+
+    let payload = random.bytes((state.units() * block) as usize);
+    row.write(stripe, mask, &payload);
+    request(&mut pair, 1, payload);
+    assert!(row.agrees(&pair.theirs.state, &pair.theirs.image, stripe));
+    assert_eq!(call(&mut pair, Call::Check), Answer::of(0));
+    assert_eq!(call(&mut pair, Call::Report { card: cards - 1 }), Answer::of(0));
+    assert_eq!(request(&mut pair, 0, Vec::new()), row.read(stripe, mask));
+}
+
+#[test]
+fn the_smallest_and_the_largest_array() {
+    run(State { cards: 3, stripes: 1, block: 16, records: 1, out: 255, lost: 0 });
+    run(State { cards: 8, stripes: 1024, block: 512, records: 8, out: 255, lost: 0 });
+}
+
+#[test]
+fn every_size_of_a_block() {
+    for cards in 3..=8 {
+        for sixteens in 1..=32 {
+            let block = 16 * sixteens;
+            run(State { cards, stripes: cards + 1, block, records: 2, out: 255, lost: 0 });
+        }
+    }
+}

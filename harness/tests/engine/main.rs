@@ -1,0 +1,24 @@
+//! The library, through its C calls, held to document 01 and to the plain engine.
+
+mod boundary;
+mod examples;
+mod history;
+mod impostors;
+mod largest;
+mod longest;
+mod numbers;
+mod orders;
+mod pair;
+mod scene;
+mod story;
+mod tables;
+mod tally;
+mod versions;
+mod wild;
+
+use harness::calls::Calls;
+
+/// The engine under test.
+fn tested() -> impl Calls {
+    harness::calls::Tested
+}

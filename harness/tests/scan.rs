@@ -1,0 +1,210 @@
+//! The scan of an idle array against the independent implementation: the whole answer, on every image and state below.
+use harness::calls::{Answer, Calls, Plain, State};
+use harness::numbers::wild;
+use harness::plain::blocks::{make_right, on_card};
+use harness::random::Random;
+use harness::recorder;
+use std::collections::BTreeSet;
+
+/// Where a byte of a card's block stands.
+fn at(state: &State, card: usize, stripe: usize, byte: usize) -> usize {
+    on_card(state, card as u64, stripe as u64).start + byte
+}
+
+fn same(state: &State, image: &[u8]) -> Answer {
+    let reply = recorder::scan(state, image);
+    assert_eq!(reply, Answer::of(Plain.scan(state, image)), "{state:?}, an image of {} bytes", image.len());
+    reply
+}
+
+fn disagrees(stripe: usize, byte: usize) -> Answer {
+    Answer { number: 13, first: stripe as u64, second: byte as u64 }
+}
+
+fn pick(numbers: &mut Random, bound: usize) -> usize {
+    numbers.below(bound as u64) as usize
+}
+
+fn right_image(numbers: &mut Random, state: &State) -> Vec<u8> {
+    let (cards, stripes, block) = state.sizes();
+    let mut image: Vec<u8> = (0..cards * stripes * block).map(|_| numbers.number() as u8).collect();
+    make_right(state, &mut image);
+    image
+}
+
+/// Every legal N with several S and B.
+fn shapes() -> Vec<State> {
+    let mut shapes = Vec::new();
+    for cards in 3..=8 {
+        for stripes in [1, 2, 5, 9, 64] {
+            for block in [16, 32, 48, 512] {
+                shapes.push(State::whole(cards, stripes, block));
+            }
+        }
+        shapes.push(State::whole(cards, 1024, 16));
+        shapes.push(State::whole(cards, 1023, 48));
+    }
+    shapes.push(State::whole(8, 1024, 512));
+    shapes
+}
+
+#[test]
+fn right_images() {
+    let mut numbers = Random::new(1);
+    for state in shapes() {
+        let image = right_image(&mut numbers, &state);
+        assert_eq!(same(&state, &image), Answer::accepted(0, 0));
+        assert_eq!(same(&state, &vec![0; image.len()]), Answer::accepted(0, 0));
+    }
+}
+
+#[test]
+fn one_damaged_byte() {
+    let mut numbers = Random::new(2);
+    for state in shapes() {
+        let (cards, stripes, block) = state.sizes();
+        let mut image = right_image(&mut numbers, &state);
+        let (card, stripe, byte) = (cards - 1, stripes - 1, block - 1);
+        let mut places = vec![(0, 0, 0), (card, stripe, byte), (0, stripe, byte), (card, 0, 0), (0, 0, byte), (card, stripe, 0)];
+        for _ in 0..20 {
+            places.push((pick(&mut numbers, cards), pick(&mut numbers, stripes), pick(&mut numbers, block)));
+        }
+        for (card, stripe, byte) in places {
+            let change = 1 << numbers.below(8);
+            image[at(&state, card, stripe, byte)] ^= change;
+            assert_eq!(same(&state, &image), disagrees(stripe, byte));
+            image[at(&state, card, stripe, byte)] ^= change;
+        }
+    }
+}
+
+/// Several damages at different places: the lowest stripe is given, and the lowest byte in it.
+#[test]
+fn several_damaged_bytes() {
+    let mut numbers = Random::new(3);
+    for state in shapes() {
+        let (cards, stripes, block) = state.sizes();
+        let right = right_image(&mut numbers, &state);
+        for count in 2..10 {
+            let places: BTreeSet<(usize, usize)> =
+                (0..count).map(|_| (pick(&mut numbers, stripes), pick(&mut numbers, block))).collect();
+            let mut image = right.clone();
+            for &(stripe, byte) in &places {
+                image[at(&state, pick(&mut numbers, cards), stripe, byte)] ^= 1 << numbers.below(8);
+            }
+            let &(stripe, byte) = places.iter().next().expect("there are some");
+            assert_eq!(same(&state, &image), disagrees(stripe, byte));
+        }
+    }
+}
+
+/// The same change on two cards at one place leaves the sum as it was.
+#[test]
+fn damages_that_cancel() {
+    let mut numbers = Random::new(4);
+    for state in shapes() {
+        let (cards, stripes, block) = state.sizes();
+        let mut image = right_image(&mut numbers, &state);
+        let (stripe, byte) = (pick(&mut numbers, stripes), pick(&mut numbers, block));
+        image[at(&state, 0, stripe, byte)] ^= 0x5a;
+        image[at(&state, cards - 1, stripe, byte)] ^= 0x5a;
+        assert_eq!(same(&state, &image), Answer::accepted(0, 0));
+        image[at(&state, 1, stripe, byte)] ^= 0x01;
+        assert_eq!(same(&state, &image), disagrees(stripe, byte));
+    }
+}
+
+#[test]
+fn random_images() {
+    let mut numbers = Random::new(5);
+    for state in shapes() {
+        let mut image = right_image(&mut numbers, &state);
+        for byte in &mut image {
+            *byte ^= (numbers.below(100) == 0) as u8;
+        }
+        same(&state, &image);
+        image.iter_mut().for_each(|byte| *byte = numbers.number() as u8);
+        same(&state, &image);
+    }
+}
+
+#[test]
+fn wrong_lengths() {
+    let mut numbers = Random::new(6);
+    for state in shapes() {
+        let (_, _, block) = state.sizes();
+        let mut longer = right_image(&mut numbers, &state);
+        let len = longer.len();
+        longer.resize(len + block, 0);
+        for wrong in [0, 1, len - block, len - 1, len + 1, len + block] {
+            assert_eq!(same(&state, &longer[..wrong]), Answer::refused(2));
+        }
+        assert_eq!(same(&state, &longer[1..len]), Answer::refused(2));
+    }
+}
+
+/// Numbers at the limits, beyond them and wild, two at a time.
+#[test]
+fn the_limits() {
+    let image = vec![0u8; 3 * 2 * 16];
+    let mut numbers = wild();
+    numbers.extend([24, 32, 48, 496, 511, 512, 513, 528]);
+    let with = |mut state: State, field: usize, number: u64| {
+        match field {
+            0 => state.cards = number,
+            1 => state.stripes = number,
+            2 => state.block = number,
+            3 => state.records = number,
+            4 => state.out = number,
+            _ => state.lost = number,
+        }
+        state
+    };
+    for first in 0..6 {
+        for second in first..6 {
+            for &a in &numbers {
+                for &b in &numbers {
+                    let state = with(with(State::whole(3, 2, 16), first, a), second, b);
+                    same(&state, &image);
+                    same(&state, &image[1..]);
+                }
+            }
+        }
+    }
+}
+
+/// Each refusal while every later one applies too: the lowest number is given.
+#[test]
+fn the_lowest_refusal() {
+    let mut numbers = Random::new(7);
+    for state in shapes() {
+        let mut image = right_image(&mut numbers, &state);
+        image[0] ^= 1;
+        let short = &image[1..];
+        let lost = State { out: 0, lost: 1, ..state };
+        for beyond in [
+            State { cards: state.cards + 6, ..lost },
+            State { stripes: 0, ..lost },
+            State { stripes: 1025, ..lost },
+            State { block: state.block + 8, ..lost },
+            State { block: 528, ..lost },
+            State { records: 0, ..lost },
+            State { records: 9, ..lost },
+            State { out: state.cards, ..lost },
+            State { out: 254, ..lost },
+            State { out: 256, ..lost },
+        ] {
+            assert_eq!(same(&beyond, short), Answer::refused(1));
+            assert_eq!(same(&beyond, &image), Answer::refused(1));
+        }
+        assert_eq!(same(&lost, short), Answer::refused(2));
+        assert_eq!(same(&lost, &image), Answer::refused(4));
+        assert_eq!(same(&State { lost: u64::MAX, ..state }, &image), Answer::refused(4));
+        for out in 0..state.cards {
+            assert_eq!(same(&State { out, ..state }, &image), Answer::refused(12));
+        }
+        for records in 1..=8 {
+            assert_eq!(same(&State { records, ..state }, &image), disagrees(0, 0));
+        }
+    }
+}
