@@ -4,6 +4,8 @@
 pub use choice::choose;
 pub use choice::has;
 pub use order::after;
+pub use order::all_steps;
+pub use order::before;
 pub use order::closed;
 pub use order::complete;
 pub use order::ready;

@@ -1,8 +1,8 @@
-// The order of a graph's steps, and done sets. Beyond 7 units, the array's limit, each answers no.
-ghost use mathlib.Core.Bool.{not, _&&_, _||_};
+// The order of a graph's steps, and done sets. Beyond 7 units, the array's limit, each answers no, or the empty set.
+ghost use mathlib.Core.Bool.{cond, not, _&&_, _||_};
 ghost use mathlib.Core.Path.{_≡_};
 ghost use Prim.Native.Nat.{_≤_};
-ghost use Rattle.graph.specs.Asked.{fewUnits, beforeSet, afterOr};
+ghost use Rattle.graph.specs.Asked.{fewUnits, stepSet, beforeSet, afterOr};
 ghost use Rattle.graph.specs.Order.{ready, complete, closed};
 use crate::choice::has;
 use crate::sets::below;
@@ -34,6 +34,26 @@ fn before_set(n: u64, g: u64, mask: u64, x: u64, k: u64) -> u64
         return read_set(n, g, mask, x);
     }
     0
+}
+
+// The steps of the graph.
+pub fn all_steps(n: u64, g: u64, mask: u64, x: u64) -> u64
+    ensures { λ r. ⌜ r ≡ cond (fewUnits n) (stepSet n g mask x) 0 ⌝ }
+{
+    if n > 7 {
+        return 0;
+    }
+    step_set(n, g, mask, x)
+}
+
+// What must come before step k.
+pub fn before(n: u64, g: u64, mask: u64, x: u64, k: u64) -> u64
+    ensures { λ r. ⌜ r ≡ cond (fewUnits n) (beforeSet n g mask x k) 0 ⌝ }
+{
+    if n > 7 {
+        return 0;
+    }
+    before_set(n, g, mask, x, k)
 }
 
 // Step k is ready: in the graph, not done, and lacks none that must come before.
