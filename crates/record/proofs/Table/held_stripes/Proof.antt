@@ -2,19 +2,21 @@
 -- Assumes nothing.
 use Prim.Native.Nat.{ℕ, _+_, _-_, _≤_, _<_, min}
 use mathlib.Core.List.{List}
-use mathlib.Core.Path.{_≡_, ap, ap₂, _∙_}
+use mathlib.Core.Path.{_≡_, refl, ap, ap₂, _∙_}
 use native.Mathlib.Omega.{arith}
 use borrow.Author.Needs.{needs}
 use lib.ListN.{getD, length}
 use lib.ListN.{set}
-use Rattle.record.specs.Asked.{heldStripe}
+use Rattle.terms.specs.Lists.{tabulate}
+use Rattle.record.specs.Asked.{noStripe, heldStripe}
 use Rattle.record.specs.Life.{free}
-use Rattle.record.proofs.Held.{filling, length-filling, filling-none, filling-more, filling-all}
+use Rattle.record.proofs.Filling.{entry, filling, filling-more}
+use Rattle.record.proofs.Held.{filled-stripes}
 use Rattle.record.proofs.Table.held_stripes.Statement.{statement}
 use Rattle.record.proofs.Table.held_stripes.Tie as tie
 
 abbrev Inv-loop : tie.InvT-loop
-Inv-loop records top stripes₀ i₀ stripes i = (i ≤ top) × (stripes ≡ filling records i)
+Inv-loop records top stripes₀ i₀ stripes i = (i ≤ top) × (stripes ≡ filling 8 (λ k. heldStripe (getD records k free)) noStripe i)
 
 abbrev μ-loop : tie.MeasureT-loop
 μ-loop records top stripes₀ i₀ stripes i = top - i
@@ -23,7 +25,8 @@ filled-requires : tie.Need-filled-requires Inv-loop μ-loop
 filled-requires c κs = search needs
 
 loop-holds : tie.Need-loop-holds Inv-loop μ-loop
-loop-holds c = (search needs, filling-none (c .before .before .args .self .records))
+unfolding filling entry tabulate
+loop-holds c = (search needs, refl)
 
 mul-held-stripe : tie.Need-mul-held-stripe Inv-loop μ-loop
 mul-held-stripe c = search needs
@@ -54,7 +57,7 @@ loop-again c =
     let records = l .before .before .before .args .self .records in (
       search needs,
       ap₂ (λ (s : List ℕ) (v : ℕ). set s (l .loop .i) v) (l .loop .inv .1) (c .held-stripe .ensures)
-          ∙ filling-more records (l .loop .i) (omega (arith, l .before .filled .ensures, c .before .before .loop-test .taken)),
+          ∙ filling-more 8 (λ k. heldStripe (getD records k free)) noStripe (l .loop .i) (omega (arith, l .before .filled .ensures, c .before .before .loop-test .taken)),
     )
 
 returns : tie.Need-returns Inv-loop μ-loop
@@ -62,7 +65,7 @@ returns c =
     let l = c .before in
     let t = l .before .before .before .args .self in
     let e : l .loop .i ≡ min (t .len) 8 = omega (arith, l .loop .inv .0, c .loop-test .left, l .before .filled .ensures) in
-    l .loop .inv .1 ∙ ap (filling (t .records)) e ∙ filling-all t
+    l .loop .inv .1 ∙ ap (filling 8 (λ k. heldStripe (getD (t .records) k free)) noStripe) e ∙ filled-stripes t
 
 pub held-stripes-spec : {M : Type 1} → statement M
 held-stripes-spec =
