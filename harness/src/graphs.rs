@@ -8,7 +8,7 @@ extern "C" {
     fn graph_test_before(n: u64, g: u64, mask: u64, x: u64, k: u64) -> u64;
     fn graph_test_ready(n: u64, g: u64, mask: u64, x: u64, done: u64, k: u64) -> bool;
     fn graph_test_complete(n: u64, g: u64, mask: u64, x: u64, done: u64) -> bool;
-    fn graph_test_closed(n: u64, g: u64, mask: u64, x: u64, done: u64) -> bool;
+    fn graph_test_judge(n: u64, g: u64, mask: u64, x: u64, done: u64) -> u64;
     fn graph_test_kind(n: u64, k: u64) -> u64;
     fn graph_test_place(n: u64, k: u64) -> u64;
     fn graph_test_takes_read(n: u64, g: u64, mask: u64, x: u64, p: u64) -> bool;
@@ -67,8 +67,12 @@ impl Asked {
         unsafe { graph_test_complete(self.units, self.graph, self.mask, self.missing, done) }
     }
 
-    pub fn closed(self, done: u64) -> bool {
-        unsafe { graph_test_closed(self.units, self.graph, self.mask, self.missing, done) }
+    /// Of done steps: none where they are not the graph's, each with its forerunners; else whether they are all.
+    pub fn judge(self, done: u64) -> Option<bool> {
+        match unsafe { graph_test_judge(self.units, self.graph, self.mask, self.missing, done) } {
+            0 => None,
+            judged => Some(judged == 2),
+        }
     }
 
     /// The exclusive or takes the read block of this position.

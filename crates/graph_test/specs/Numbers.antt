@@ -7,10 +7,18 @@ use lib.Dec.{ltb}
 use lib.ListN.{length, getD}
 use Rattle.terms.specs.Lists.{tabulate}
 use Rattle.geometry.specs.declared.State.{State}
+use Rattle.graph.specs.declared.order.Judged.{Judged}
+use Rattle.graph.specs.declared.order.Judged.the-variants.{Wrong, Wanting, Whole}
 use Rattle.graph.specs.Steps.{Step, rd, xr, wr, nil}
 use Rattle.record.specs.Life.{free}
 use Rattle.record.specs.declared.Record.{Record}
 use Rattle.record.specs.declared.Table.{Table}
+
+-- a judgement of done steps: 0 wrong, 1 a step is wanting, 2 none is
+unfoldable pub judgedNumber : Judged → ℕ
+judgedNumber Wrong = 0
+judgedNumber Wanting = 1
+judgedNumber Whole = 2
 
 -- what a step does: 1 reads, 2 is the exclusive or, 3 writes, 0 is no step; and its position
 unfoldable pub kindOf : Step → ℕ

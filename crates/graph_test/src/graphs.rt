@@ -1,13 +1,14 @@
 // The graphs.
 ghost use mathlib.Core.Bool.{cond, _&&_};
 ghost use mathlib.Core.Path.{_≡_};
-ghost use Rattle.graph.specs.Asked.{fewUnits, stepSet, beforeSet};
+ghost use Rattle.graph.specs.Asked.{fewUnits, stepSet, beforeSet, judged};
 ghost use Rattle.graph.specs.Choice.{choose};
-ghost use Rattle.graph.specs.Order.{ready, complete, closed};
+ghost use Rattle.graph.specs.Order.{ready, complete};
 ghost use Rattle.graph.specs.Steps.{stepOf};
 ghost use Rattle.graph.specs.Sums.{takesRead, takesNew, sumsToRead};
-ghost use Rattle.graph_test.specs.Numbers.{kindOf, placeOf};
+ghost use Rattle.graph_test.specs.Numbers.{judgedNumber, kindOf, placeOf};
 use graph::Action;
+use graph::Judged;
 
 #[no_mangle]
 pub extern "C" fn graph_test_choose(n: u64, write: bool, mask: u64, x: u64) -> u64
@@ -44,11 +45,17 @@ pub extern "C" fn graph_test_complete(n: u64, g: u64, mask: u64, x: u64, done: u
     graph::complete(n, g, mask, x, done)
 }
 
+// Of done steps: 0 where they are wrong, 1 where a step is wanting, 2 where none is.
 #[no_mangle]
-pub extern "C" fn graph_test_closed(n: u64, g: u64, mask: u64, x: u64, done: u64) -> bool
-    ensures { λ r. ⌜ r ≡ (fewUnits n && closed n g mask x done) ⌝ }
+pub extern "C" fn graph_test_judge(n: u64, g: u64, mask: u64, x: u64, done: u64) -> u64
+    ensures { λ r. ⌜ r ≡ judgedNumber (judged n g mask x done) ⌝ }
 {
-    graph::closed(n, g, mask, x, done)
+    let judged = graph::judge(n, g, mask, x, done);
+    match judged {
+        Judged::Wrong => 0,
+        Judged::Wanting => 1,
+        Judged::Whole => 2,
+    }
 }
 
 // What step k does: 1 reads, 2 is the exclusive or, 3 writes, 0 is no step.

@@ -2,6 +2,7 @@
 
 use crate::each::{every_request, subsets};
 use harness::graphs::{action, choose, sums_to_read};
+use harness::plain::graph::Plan;
 
 #[test]
 fn choice() {
@@ -51,6 +52,10 @@ fn sums() {
     });
 }
 
+fn judged(plan: &Plan, done: u64) -> Option<bool> {
+    plan.allows(done).then(|| done == plan.steps())
+}
+
 /// Every set of a graph's own steps.
 #[test]
 fn every_done_set() {
@@ -58,7 +63,7 @@ fn every_done_set() {
         let (asked, plan) = (chosen.asked(), chosen.plan());
         let steps = plan.steps();
         for done in subsets(steps) {
-            assert_eq!(asked.closed(done), plan.allows(done), "{done:b} of {asked:?}");
+            assert_eq!(asked.judge(done), judged(&plan, done), "{done:b} of {asked:?}");
             assert_eq!(asked.complete(done), done == steps, "{done:b} of {asked:?}");
             for step in 0..=2 * chosen.units + 3 {
                 assert_eq!(asked.ready(done, step), plan.ready(done, step), "{step} after {done:b} of {asked:?}");
@@ -75,13 +80,13 @@ fn foreign_steps() {
         let steps = plan.steps();
         for foreign in (0..64).map(|step| 1 << step).filter(|step| steps & step == 0) {
             for done in [foreign, steps | foreign] {
-                assert!(!asked.closed(done), "{done:b} of {asked:?}");
+                assert_eq!(asked.judge(done), None, "{done:b} of {asked:?}");
                 assert_eq!(asked.complete(done), done & steps == steps, "{done:b} of {asked:?}");
             }
         }
         if chosen.units <= 4 {
             for done in 0..1 << (2 * chosen.units + 4) {
-                assert_eq!(asked.closed(done), plan.allows(done), "{done:b} of {asked:?}");
+                assert_eq!(asked.judge(done), judged(&plan, done), "{done:b} of {asked:?}");
                 assert_eq!(asked.complete(done), done & steps == steps, "{done:b} of {asked:?}");
             }
         }

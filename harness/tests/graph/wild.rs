@@ -70,7 +70,7 @@ fn sets_and_answers() {
                     assert!(!few || asked.steps() < 1 << (2 * units + 3), "{asked:?}");
                     for &number in &NUMBERS {
                         assert!(few || asked.before(number) == 0, "{asked:?}");
-                        assert!(few || !asked.complete(number) && !asked.closed(number), "{asked:?}");
+                        assert!(few || !asked.complete(number) && asked.judge(number).is_none(), "{asked:?}");
                         assert!(few || !asked.ready(0, number), "{asked:?}");
                         asked.takes_read(number);
                         asked.takes_new(number);
