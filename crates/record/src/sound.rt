@@ -9,6 +9,7 @@ use crate::Record;
 use crate::life::units;
 use geometry::NONE;
 use geometry::State;
+use graph::Judged;
 
 // A legal mask of n units: not zero, and no bit at n or above.
 pub fn legal_mask(n: u64, mask: u64) -> bool
@@ -112,11 +113,13 @@ impl Record {
         if self.graph != graph::choose(n, self.write == 1, self.mask, x) {
             return false;
         }
-        if !graph::closed(n, self.graph, self.mask, x, self.done) {
-            return false;
+        let open = self.phase == 1;
+        let judged = graph::judge(n, self.graph, self.mask, x, self.done);
+        match judged {
+            Judged::Wrong => false,
+            Judged::Wanting => right_count(n, open, false, self.count),
+            Judged::Whole => right_count(n, open, true, self.count),
         }
-        let lacks_none = graph::complete(n, self.graph, self.mask, x, self.done);
-        right_count(n, self.phase == 1, lacks_none, self.count)
     }
 
     // The two records are open on one stripe.
