@@ -1,8 +1,92 @@
 // The calls as the caller makes them: lent the table of request records where it stands, and for a report the state.
 // Assumes nothing.
+ghost use mathlib.Core.Path.{_≡_};
+ghost use lib.Dec.{eqb};
+ghost use Rattle.array.specs.Admission.{admission};
+ghost use Rattle.array.specs.Answers.{openedReply};
+ghost use Rattle.array.specs.Collection.{collection};
+ghost use Rattle.array.specs.Opening.{opening};
+ghost use Rattle.array.specs.Scan.{scanReply};
+ghost use Rattle.array.specs.Stepping.{stepping};
+ghost use Rattle.calls.specs.Lent.{OpeningLent, AdmissionLent, SteppingLent, CollectionLent};
 ghost use Rattle.geometry.specs.Report.{ReportingIs, reporting};
+ghost use Rattle.parity.specs.Scan.{Named, reply};
+use array::answers::Admitted;
+use array::answers::Collected;
+use array::answers::Opened;
+use array::answers::Opening;
+use array::answers::Stepped;
+use geometry::Geometry;
 use geometry::State;
 use geometry::report::Reported;
+use parity::Scan;
+use record::Record;
+use table::copied;
+use table::freed;
+use table::replace;
+
+// Whether an opening is accepted.
+fn is_open(answer: Opened) -> bool
+    ensures { λ r. ⌜ r ≡ eqb (openedReply answer .number) 0 ⌝ }
+{
+    match answer {
+        Opened::Open => true,
+        Opened::Refused(number) => number == 0,
+        Opened::Disagrees(stripe, byte) => false,
+    }
+}
+
+// Opens an array: the answer and the new state, all zero if refused. Every record is freed.
+pub fn open(
+    geometry: Geometry,
+    out: u64,
+    table: &mut [Record],
+    work: &[u8],
+    image: &[u8],
+) -> Opening
+    ensures { λ r. ⌜ OpeningLent (opening geometry out (now (table .entry)) (now (work .entry)) (now (image .entry))) (r .answer) (r .state) (now (table .exit)) ⌝ }
+{
+    let t = copied(table);
+    let made = array::open(geometry, out, t, work, image);
+    freed(table, is_open(made.answer));
+    made
+}
+
+// Admits a request of a stripe and a mask of units, which takes the lowest free record.
+pub fn admit(
+    state: State,
+    table: &mut [Record],
+    work: &mut [u8],
+    image: &[u8],
+    write: bool,
+    stripe: u64,
+    mask: u64,
+    payload: &[u8],
+) -> Admitted
+    ensures { λ r. ⌜ AdmissionLent (admission state (now (table .entry)) (now (work .entry)) (now (image .entry)) write stripe mask (now (payload .entry))) r (now (table .exit)) (now (work .exit)) ⌝ }
+{
+    let t = copied(table);
+    let made = array::admit(state, t, work, image, write, stripe, mask, payload);
+    replace(table, made.place, made.record);
+    made.answer
+}
+
+// Does step k of record i, or chooses its graph afresh.
+pub fn step(
+    state: State,
+    table: &mut [Record],
+    work: &mut [u8],
+    image: &mut [u8],
+    i: u64,
+    k: u64,
+) -> Stepped
+    ensures { λ r. ⌜ SteppingLent (stepping state (now (table .entry)) (now (work .entry)) (now (image .entry)) i k) r (now (table .exit)) (now (work .exit)) (now (image .exit)) ⌝ }
+{
+    let t = copied(table);
+    let made = array::step(state, t, work, image, i, k);
+    replace(table, made.place, made.record);
+    made.answer
+}
 
 // Marks a card out, or the array lost, where the state stands.
 pub fn report(state: &mut State, card: u64) -> Reported
@@ -12,4 +96,28 @@ pub fn report(state: &mut State, card: u64) -> Reported
     let made = old.report(card);
     *state = made.state;
     made.answer
+}
+
+// Collects finished record i, which is freed: a read's units go to the front of the result buffer.
+pub fn collect(
+    state: State,
+    table: &mut [Record],
+    work: &[u8],
+    i: u64,
+    result: &mut [u8],
+) -> Collected
+    ensures { λ r. ⌜ CollectionLent (collection state (now (table .entry)) (now (work .entry)) i (now (result .entry))) r (now (table .exit)) (now (result .exit)) ⌝ }
+{
+    let t = copied(table);
+    let made = array::collect(state, t, work, i, result);
+    replace(table, made.place, made.record);
+    made.answer
+}
+
+// Scans the stripes that no open request holds.
+pub fn scan(state: State, table: &[Record], image: &[u8]) -> Scan
+    ensures { λ r. ⌜ (reply r ≡ scanReply state (now (table .entry)) (now (image .entry))) × Named r ⌝ }
+{
+    let t = copied(table);
+    array::scan(state, t, image)
 }
