@@ -1,8 +1,8 @@
 // When a record is sound, clause by clause.
-ghost use mathlib.Core.Bool.{Bool, cond, not, _&&_};
+ghost use mathlib.Core.Bool.{cond, not, _&&_};
 ghost use mathlib.Core.Path.{_≡_};
 ghost use Prim.Native.Nat.{_+_, _*_, _≤_};
-ghost use lib.Dec.{leb, eqb};
+ghost use lib.Dec.{leb};
 ghost use Rattle.record.specs.Asked.{soundRecordIn, heldStripe};
 ghost use Rattle.record.specs.Sound.{allZero, legalMask, legalRecord, legalChosen, clash, holds};
 use crate::Record;
