@@ -11,6 +11,9 @@ use geometry::NONE;
 use geometry::State;
 use graph::Judged;
 
+// A number that is no stripe's.
+pub(crate) const NO_STRIPE: u64 = 1024;
+
 // A legal mask of n units: not zero, and no bit at n or above.
 pub fn legal_mask(n: u64, mask: u64) -> bool
     ensures { λ r. ⌜ r ≡ legalMask n mask ⌝ }
@@ -144,6 +147,7 @@ impl Record {
         }
         self.stripe == stripe
     }
+
     // The stripe that the record holds, or a number that is no stripe's.
     pub(crate) fn held_stripe(self) -> u64
         ensures { λ r. ⌜ r ≡ heldStripe self ⌝ }
@@ -151,6 +155,6 @@ impl Record {
         if self.phase == 1 {
             return self.stripe;
         }
-        1024
+        NO_STRIPE
     }
 }

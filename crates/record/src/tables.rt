@@ -12,6 +12,7 @@ use crate::Record;
 use crate::Table;
 use crate::life::free;
 use crate::life::units;
+use crate::sound::NO_STRIPE;
 use geometry::State;
 
 // How many records there are: the length, at most eight.
@@ -141,7 +142,7 @@ impl Table {
         ensures { λ r. ⌜ r ≡ heldStripes self ⌝ }
     {
         let top = filled(self.len);
-        let mut stripes = [1024; 8];
+        let mut stripes = [NO_STRIPE; 8];
         let mut i = 0;
         while i < top {
             let r = self.records[i];
