@@ -1,13 +1,13 @@
 -- What is lent right is not refused for it: of the numbers 1 to 4 none is given. And when a step, a collect, a scan is accepted.
 -- Assumes nothing.
-use Prim.Native.Nat.{ℕ, suc, _≤_, _<_}
-use mathlib.Core.Bool.{Bool, true, false, cond, not, _||_, _&&_}
+use Prim.Native.Nat.{ℕ, _<_}
+use mathlib.Core.Bool.{Bool, true, false, not, _||_}
 use mathlib.Core.List.{List, [], _∷_}
 use mathlib.Core.Logic.{_⊎_, inl, inr}
-use mathlib.Core.Path.{_≡_, refl, sym, ap, ap₂, _∙_}
+use mathlib.Core.Path.{_≡_, refl, ap, _∙_}
 use native.Mathlib.Omega.{arith}
-use borrow.Author.Tests.{eq-eqb, lt-leb, le-ltb}
-use lib.Dec.{leb, ltb, eqb}
+use borrow.Author.Tests.{eq-eqb, lt-leb}
+use lib.Dec.{leb, eqb}
 use lib.ListN.{length, getD}
 use Rattle.terms.specs.Reply.{Row, row, firstRow}
 use Rattle.terms.proofs.Rows.{firstRow-skip}
@@ -16,11 +16,11 @@ use Rattle.geometry.specs.Report.{reportRefusal}
 use Rattle.geometry.specs.Store.{imageWrong, workWrong, imageSize, workSize}
 use Rattle.geometry.specs.declared.State.{State}
 use Rattle.parity.specs.Parity.{rightParity}
-use Rattle.record.specs.Life.{free, isFree, isOpen, isFinished, isWrite, unitsOf}
-use Rattle.record.specs.Sound.{sound, held, legalMask, lowestFree}
+use Rattle.record.specs.Life.{free, isOpen, isFinished}
+use Rattle.record.specs.Sound.{sound, held}
 use Rattle.record.specs.declared.Record.{Record}
-use Rattle.array.specs.Lent.{tableWrong, unitBytes}
-use Rattle.array.specs.Refusals.{admitRefusal, stepRefusal, collectRefusal, scanRefusal, payloadWrong, resultShort, stepReady}
+use Rattle.array.specs.Lent.{tableWrong}
+use Rattle.array.specs.Refusals.{admitRefusal, stepRefusal, collectRefusal, scanRefusal, resultShort, stepReady}
 use Rattle.array.proofs.Passed.{Right}
 
 -- nothing is refused, or by a number above 4

@@ -1,21 +1,20 @@
 -- What an accepted call has passed: each test of its table of refusals, as a fact.
 -- Assumes nothing.
-use Prim.Native.Nat.{ℕ, suc, _≤_, _<_}
-use mathlib.Core.Bool.{Bool, true, false, cond, not, _||_, _&&_}
+use Prim.Native.Nat.{ℕ, suc, _<_}
+use mathlib.Core.Bool.{Bool, true, false, cond, not, _||_}
 use mathlib.Core.List.{List, [], _∷_}
-use mathlib.Core.Path.{_≡_, refl, sym, ap, _∙_}
+use mathlib.Core.Path.{_≡_}
 use native.Mathlib.Omega.{arith}
-use borrow.Author.Tests.{eqb-true, eqb-false, leb-false, not-false, ltb-false}
-use lib.Dec.{leb, ltb, eqb}
+use borrow.Author.Tests.{eqb-true, eqb-false, leb-false, not-false}
+use lib.Dec.{leb, eqb}
 use lib.ListN.{length, getD}
 use Rattle.terms.specs.Reply.{Row, row, firstRow}
 use Rattle.terms.proofs.Rows.{firstRow-zero, or-false-left, or-false-right}
 use Rattle.terms.proofs.Sets.{lowest-le}
-use Rattle.geometry.specs.Limits.{beyondState, isLost, none}
+use Rattle.geometry.specs.Limits.{beyondState, isLost}
 use Rattle.geometry.specs.Store.{imageWrong, workWrong, imageSize, workSize}
 use Rattle.geometry.specs.declared.State.{State}
-use Rattle.parity.specs.Parity.{rightParity}
-use Rattle.record.specs.Life.{free, isFree, isOpen, isFinished, isWrite, unitsOf}
+use Rattle.record.specs.Life.{free, isFree, isOpen, isFinished, unitsOf}
 use Rattle.record.specs.Sound.{sound, held, legalMask, lowestFree}
 use Rattle.record.specs.declared.Record.{Record}
 use Rattle.array.specs.Lent.{tableWrong, unitBytes}

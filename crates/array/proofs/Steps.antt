@@ -1,19 +1,17 @@
 -- What a done step alters: its own record's blocks and its own stripe, and there just the block that document 01 names.
 -- Assumes nothing.
-use Prim.Native.Nat.{ℕ, _+_, _-_, _*_, _≤_, _<_}
-use mathlib.Core.Bool.{Bool, true, false, cond}
+use Prim.Native.Nat.{ℕ, _<_}
+use mathlib.Core.Bool.{Bool, true, false}
 use mathlib.Core.List.{List}
-use mathlib.Core.Logic.{_⊎_, inl, inr}
-use mathlib.Core.Path.{_≡_, refl, sym, ap, _∙_}
+use mathlib.Core.Path.{_≡_, refl, ap, _∙_}
 use native.Mathlib.Omega.{arith}
-use lib.ListN.{length, getD}
+use lib.ListN.{length}
 use Rattle.terms.specs.Lists.{put, part, tabulate}
 use Rattle.terms.proofs.Lists.{length-part, getD-part, length-tabulate, getD-tabulate}
 use Rattle.geometry.proofs.Apart.{cell-inside, write-inside}
-use Rattle.geometry.proofs.Places.{one-position}
 use Rattle.geometry.specs.Placement.{cardAt, positionOf}
 use Rattle.geometry.specs.Placing.{Placing}
-use Rattle.geometry.specs.Store.{cellAt, writeAt, readAt, imageSize, workSize}
+use Rattle.geometry.specs.Store.{writeAt, readAt, imageSize, workSize}
 use Rattle.geometry.specs.declared.State.{State}
 use Rattle.graph.specs.Steps.{Step, rd, xr, wr, nil}
 use Rattle.graph.specs.Sums.{sumsToRead}

@@ -15,12 +15,16 @@ use Rattle.record.specs.declared.Record.{Record}
 use Rattle.array.specs.Lent.{rank}
 use Rattle.array.specs.Refusals.{admitRefusal}
 
--- a write's units, ascending, each copied to that unit's block to write of record i
-unfoldable pub keepUnits : State → ℕ → ℕ → List ℕ → List ℕ → List ℕ
-keepUnits st i mask payload work =
-    changes (unitsOf st)
-    (λ u w. cond (bit u mask) (put (writeAt (st .cards) (st .block) i u) (part (rank mask u * st .block) (st .block) payload) w) w)
+-- unit u of a write, where it is in the mask, copied to its block to write of record i
+abbrev pub keepUnit : State → ℕ → ℕ → List ℕ → ℕ → List ℕ → List ℕ
+keepUnit st i mask payload u work =
+    cond (bit u mask)
+    (put (writeAt (st .cards) (st .block) i u) (part (rank mask u * st .block) (st .block) payload) work)
     work
+
+-- a write's units, ascending
+unfoldable pub keepUnits : State → ℕ → ℕ → List ℕ → List ℕ → List ℕ
+keepUnits st i mask payload work = changes (unitsOf st) (keepUnit st i mask payload) work
 
 -- what admit answers, the record's number, and the table and the work store that it leaves; the state and the image stay
 pub record Admission : Type 0 where

@@ -14,12 +14,16 @@ use Rattle.record.specs.declared.Record.{Record}
 use Rattle.array.specs.Lent.{rank}
 use Rattle.array.specs.Refusals.{collectRefusal}
 
+-- unit u of a read, where it is in the mask, copied from its read block of record i to its place in the result
+abbrev pub handUnit : State → ℕ → ℕ → List ℕ → ℕ → List ℕ → List ℕ
+handUnit st i mask work u result =
+    cond (bit u mask)
+    (put (rank mask u * st .block) (part (readAt (st .cards) (st .block) i u) (st .block) work) result)
+    result
+
 -- a read's units, ascending, at the front of the result buffer; the bytes behind them stay
 unfoldable pub handOver : State → ℕ → ℕ → List ℕ → List ℕ → List ℕ
-handOver st i mask work result =
-    changes (unitsOf st)
-    (λ u l. cond (bit u mask) (put (rank mask u * st .block) (part (readAt (st .cards) (st .block) i u) (st .block) work) l) l)
-    result
+handOver st i mask work result = changes (unitsOf st) (handUnit st i mask work) result
 
 -- what collect answers, the step count, and the table and the result buffer that it leaves; the state and the work store stay
 pub record Collection : Type 0 where

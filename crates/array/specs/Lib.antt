@@ -7,3 +7,6 @@ pub mod Stepping
 pub mod Collection
 pub mod Scan
 pub mod Answers
+pub mod Premises
+pub mod Sums
+pub mod Outcomes

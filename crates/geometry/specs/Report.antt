@@ -1,8 +1,9 @@
 -- Document 01, "What the calls do", report: what it answers and the state that it leaves.
 -- Assumes nothing.
 use Prim.Native.Nat.{ℕ}
-use mathlib.Core.Bool.{Bool, cond}
+use mathlib.Core.Bool.{cond}
 use mathlib.Core.List.{[], _∷_}
+use mathlib.Core.Path.{_≡_}
 use lib.Dec.{leb, eqb}
 use Rattle.terms.specs.Reply.{Reply, accepted, refused, row, firstRow, onAccept}
 use Rattle.geometry.specs.Limits.{none, beyondState, isLost}
@@ -62,3 +63,13 @@ reporting st c =
 abbrev pub reportedReply : Reported → Reply
 reportedReply Marked = accepted 0 0
 reportedReply (Refused k) = refused k
+
+-- the answer that has a reply; an answer is the one that its reply names
+unfoldable pub reportedOf : Reply → Reported
+reportedOf r = cond (eqb (r .number) 0) Marked (Refused (r .number))
+
+-- what report hands back is what the paper says
+pub record ReportingIs (d : Reporting) (answer : Reported) (state : State) : Type 0 where
+  pub reply : reportedReply answer ≡ d .reply
+  pub answered : answer ≡ reportedOf (d .reply)
+  pub state-left : state ≡ d .state

@@ -1,7 +1,7 @@
 // The report of a failure, on a state by value.
 // Assumes nothing.
 ghost use mathlib.Core.Path.{_≡_};
-ghost use Rattle.geometry.specs.Report.{reportRefusal, marked, reporting, reportedReply};
+ghost use Rattle.geometry.specs.Report.{ReportingIs, reportRefusal, marked, reporting};
 use crate::State;
 use crate::limits::NONE;
 
@@ -51,7 +51,7 @@ impl State {
 
     // Marks a card out, or the array lost.
     pub fn report(self, card: u64) -> Report
-        ensures { λ r. ⌜ (reportedReply (r .answer) ≡ reporting self card .reply) × (r .state ≡ reporting self card .state) ⌝ }
+        ensures { λ r. ⌜ ReportingIs (reporting self card) (r .answer) (r .state) ⌝ }
     {
         let number = self.report_refusal(card);
         if number != 0 {

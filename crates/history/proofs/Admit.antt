@@ -1,21 +1,19 @@
 -- An accepted admission opens a record on a stripe that nobody holds: the world stays sure, the stripe now working towards the new row.
 -- Assumes nothing.
-use Prim.Native.Nat.{ℕ, _+_, _-_, _*_, _≤_, _<_}
+use Prim.Native.Nat.{ℕ, _+_, _*_, _<_}
 use mathlib.Core.Bool.{Bool, true, false, cond}
-use mathlib.Core.List.{List, []}
+use mathlib.Core.List.{List}
 use mathlib.Core.Path.{_≡_, refl, sym, ap, _∙_, subst}
 use native.Mathlib.Omega.{arith}
 use lib.Dec.{ltb, eqb}
 use lib.ListN.{length, getD, set}
 use Rattle.terms.specs.Sets.{bit}
-use Rattle.terms.proofs.Rows.{true≢false, and-left, and-right}
+use Rattle.terms.proofs.Rows.{true≢false, and-right}
 use Rattle.terms.proofs.Sets.{lowest-holds}
-use Rattle.geometry.proofs.Bounds.{Bounds, within-limits}
-use Rattle.geometry.specs.Limits.{geometryOf}
-use Rattle.geometry.specs.declared.State.{State}
+use Rattle.geometry.proofs.Bounds.{Bounds}
 use Rattle.graph.specs.Steps.{masked}
-use Rattle.record.specs.Life.{free, isFree, isOpen, unitsOf, missingIn, admitted}
-use Rattle.record.specs.Sound.{held, lowestFree}
+use Rattle.record.specs.Life.{free, isFree, unitsOf, missingIn, admitted}
+use Rattle.record.specs.Sound.{lowestFree}
 use Rattle.record.specs.declared.Record.{Record}
 use Rattle.array.proofs.Frames.{newByte, gotByte}
 use Rattle.array.proofs.Kept.{kept-length, kept-got, kept-other, kept-same}
@@ -23,8 +21,8 @@ use Rattle.array.proofs.Passed.{Admitting}
 use Rattle.array.specs.Admission.{keepUnits}
 use Rattle.array.specs.Lent.{unitBytes, rank}
 use Rattle.stripe.proofs.Bytes.{bytes}
-use Rattle.stripe.proofs.Counts.{begun-proper}
 use Rattle.stripe.proofs.Ends.{begun-faithful}
+use Rattle.stripe.proofs.Heart.{numbers}
 use Rattle.stripe.proofs.Places.{masked-below}
 use Rattle.stripe.specs.Blocks.{changed}
 use Rattle.stripe.specs.Invariant.{Proper, Faithful}
@@ -32,7 +30,8 @@ use Rattle.stripe.specs.Request.{Request, begun}
 use Rattle.history.specs.Account.{Account, Entry, requested}
 use Rattle.history.specs.Promise.{recordAt}
 use Rattle.history.specs.World.{World}
-use Rattle.history.proofs.Invariant.{Matches, Working, Sure, requestOf, viewOf}
+use Rattle.history.proofs.Facts.{bounds}
+use Rattle.history.proofs.Invariant.{Matches, Working, Sure, viewOf}
 use Rattle.history.proofs.Records.{admitted-fit, request-begun, mask-some, mask-units}
 use Rattle.history.proofs.Rows.{rowOf, afterRow, row-is-row, after-read, after-masked, after-unmasked}
 use Rattle.history.proofs.Tables.{fit-sound, free-not-open, held-elim, holds-elim}
@@ -54,7 +53,7 @@ module _ (w : World) (a : Account) (sure : Sure w a) (write : Bool) (s mask : �
   stored = cond write (keepUnits (w .state) place mask payload (w .work)) (w .work)
 
   limits : Bounds (w .state .cards) (w .state .stripes) (w .state .block) (w .state .records)
-  limits = within-limits (geometryOf (w .state)) (w .state .out) (sure .right .limits)
+  limits = bounds (sure .right)
 
   below : place < w .state .records
   below = omega (arith, ok .some-free, sure .right .table-right)
@@ -129,7 +128,7 @@ module _ (w : World) (a : Account) (sure : Sure w a) (write : Bool) (s mask : �
       let as-made = sym (request-begun (w .state) write s mask) in
       record {
         proper = subst (λ (q : Request). Proper n x q) as-made
-            (begun-proper n x write mask (mask-some n mask (ok .mask-legal)) (mask-units n mask (ok .mask-legal)));
+            (numbers n .started x write mask (mask-some n mask (ok .mask-legal)) (mask-units n mask (ok .mask-legal)));
         faithful = λ b hb.
             subst (λ (q : Request). Faithful bytes n x q (rowOf (w .state) (a .row) s b)
             (rowOf (w .state) (afterRow (w .state) (a .row) entry) s b) (viewOf (w .state) stored (w .image) place s b)) as-made

@@ -1,22 +1,23 @@
 -- An accepted collect frees a finished record, which holds no stripe: the world stays sure.
 -- Assumes nothing.
-use Prim.Native.Nat.{ℕ, _<_}
+use Prim.Native.Nat.{ℕ}
 use mathlib.Core.Bool.{Bool, true, false, cond}
 use mathlib.Core.List.{List}
 use mathlib.Core.Path.{_≡_, refl, sym, ap, _∙_, fun-ext, subst}
 use native.Mathlib.Omega.{arith}
 use borrow.Author.Tests.{eqb-true}
 use lib.Dec.{eqb}
-use lib.ListN.{length, set}
+use lib.ListN.{set}
 use Rattle.terms.proofs.Rows.{true≢false}
-use Rattle.record.specs.Life.{free, isOpen}
+use Rattle.record.specs.Life.{free}
 use Rattle.array.proofs.Passed.{Collecting}
 use Rattle.stripe.specs.Blocks.{changed}
 use Rattle.history.specs.Account.{Account, Entry}
 use Rattle.history.specs.Promise.{recordAt}
 use Rattle.history.specs.World.{World}
+use Rattle.history.proofs.Facts.{open-fits}
 use Rattle.history.proofs.Invariant.{Sure}
-use Rattle.history.proofs.Tables.{sound-elim, fit, free-sound, open-not-free, finished-not-open}
+use Rattle.history.proofs.Tables.{free-sound, finished-not-open}
 use Rattle.history.proofs.Turn.{Turn, turned}
 
 -- to put back what stands there changes nothing
@@ -44,8 +45,7 @@ module _ (w : World) (a : Account) (sure : Sure w a) (i : ℕ) (result : List �
         old-here = λ o. true≢false (sym o ∙ finished-not-open (recordAt w i) (ok .is-finished));
         new-here = λ o. true≢false (sym o);
         alone = λ j h d o e.
-            let f = fit (w .state) (recordAt w j) (sound-elim (w .state) (w .table) (sure .right .is-sound) .each j (omega (arith, sure .right .table-right))) (open-not-free (recordAt w j) o) in
-            omega (arith, f .stripe-below);
+            omega (arith, open-fits (sure .right) j h o .stripe-below);
         own-sound = free-sound (w .state);
         own-entry = λ e. true≢false e;
         own-working = λ o. true≢false (sym o);

@@ -1,33 +1,31 @@
 -- The bytes of the card that is out may turn to anything: the world stays sure, since nothing in it rests on them.
 -- Assumes nothing.
-use Prim.Native.Nat.{ℕ, _-_, _≤_, _<_}
-use mathlib.Core.Bool.{Bool, true, false}
+use Prim.Native.Nat.{ℕ, _≤_, _<_}
+use mathlib.Core.Bool.{true}
 use mathlib.Core.List.{List}
-use mathlib.Core.Path.{_≡_, refl, sym, _∙_}
+use mathlib.Core.Path.{_≡_, _∙_}
 use native.Mathlib.Omega.{arith}
-use Rattle.geometry.proofs.Bounds.{Bounds, within-limits}
-use Rattle.geometry.specs.Limits.{geometryOf}
-use Rattle.geometry.specs.Placement.{cardAt, positionOf, outIn}
-use Rattle.geometry.specs.Placing.{Placing}
+use Rattle.geometry.proofs.Bounds.{Bounds}
+use Rattle.geometry.specs.Placement.{cardAt, outIn}
 use Rattle.geometry.specs.declared.State.{State}
 use Rattle.record.specs.Life.{isOpen, unitsOf, missingIn}
 use Rattle.stripe.proofs.Bytes.{bytes}
-use Rattle.stripe.proofs.Kept.{decayed-idle, decayed-faithful}
+use Rattle.stripe.proofs.Heart.{heart}
 use Rattle.history.specs.Account.{Account}
 use Rattle.history.specs.History.{Decayed}
 use Rattle.history.specs.Promise.{recordAt}
 use Rattle.history.specs.World.{World}
+use Rattle.history.proofs.Facts.{bounds, open-fits}
 use Rattle.history.proofs.Invariant.{Working, Sure, cellsOf}
 use Rattle.history.proofs.Placed.{layout}
 use Rattle.history.proofs.Places.{out-position}
-use Rattle.history.proofs.Tables.{fit, sound-elim, open-not-free}
 
 module _ (w : World) (a : Account) (sure : Sure w a) (image′ : List ℕ) (decayed : Decayed (w .state) (w .image) image′) where
   abbrev st : State
   st = w .state
 
   limits : Bounds (st .cards) (st .stripes) (st .block) (st .records)
-  limits = within-limits (geometryOf st) (st .out) (sure .right .limits)
+  limits = bounds (sure .right)
 
   -- a position that is not missing is on a card that works
   same-cell : (s b p : ℕ) → s < st .stripes → b < st .block → p ≤ unitsOf st → ¬ (p ≡ missingIn st s) → cellsOf st image′ s b p ≡ cellsOf st (w .image) s b p
@@ -40,12 +38,12 @@ module _ (w : World) (a : Account) (sure : Sure w a) (image′ : List ℕ) (deca
   works : (i : ℕ) → i < st .records → isOpen (recordAt w i) ≡ true → Working st (w .work) image′ (a .row) (a .entry i) i (recordAt w i)
   works i h o =
       let r = recordAt w i in
-      let hs = fit st r (sound-elim st (w .table) (sure .right .is-sound) .each i (omega (arith, sure .right .table-right))) (open-not-free r o) .stripe-below in
+      let hs = open-fits (sure .right) i h o .stripe-below in
       let was = sure .working i h o in
       record {
         proper = was .proper;
         faithful = λ b hb.
-            decayed-faithful bytes (unitsOf st) (missingIn st (r .stripe)) _ _ _ _ (cellsOf st image′ (r .stripe) b)
+            heart bytes (unitsOf st) .decayed (missingIn st (r .stripe)) _ _ _ _ (cellsOf st image′ (r .stripe) b)
             (λ p l d. same-cell (r .stripe) b p hs hb l d) (was .faithful b hb);
       }
 
@@ -63,7 +61,7 @@ module _ (w : World) (a : Account) (sure : Sure w a) (image′ : List ℕ) (deca
         row-size = sure .row-size;
         entries = sure .entries;
         resting = λ s h free-now b hb.
-            decayed-idle bytes (unitsOf st) (missingIn st s) _ _ (cellsOf st image′ s b) (λ p l d. same-cell s b p h hb l d)
+            heart bytes (unitsOf st) .decayed-idle (missingIn st s) _ _ (cellsOf st image′ s b) (λ p l d. same-cell s b p h hb l d)
             (sure .resting s h free-now b hb);
         working = works;
         read = sure .read;

@@ -1,16 +1,16 @@
 -- Every event that can happen keeps the invariant, while the array is not lost; and so it holds at the end of every such history.
 -- Assumes nothing.
-use Prim.Native.Nat.{ℕ, _-_, _≤_, _<_}
-use mathlib.Core.Bool.{Bool, true, false, cond, not}
-use mathlib.Core.List.{List, [], _∷_}
+use Prim.Native.Nat.{ℕ, _<_}
+use mathlib.Core.Bool.{Bool, true, false, cond}
+use mathlib.Core.List.{List}
 use mathlib.Core.Logic.{_⊎_, inl, inr}
-use mathlib.Core.Path.{_≡_, refl, sym, ap, _∙_, subst}
+use mathlib.Core.Path.{_≡_, refl}
 use native.Mathlib.Omega.{arith}
-use borrow.Author.Tests.{eqb-true, eqb-false, eq-eqb, leb-false}
+use borrow.Author.Tests.{eqb-true, leb-false}
 use lib.Dec.{eqb, leb}
-use lib.ListN.{length, getD, set}
+use lib.ListN.{getD, set}
 use lib.Seq.{getD-set-same}
-use Rattle.terms.proofs.Rows.{true≢false, truth}
+use Rattle.terms.proofs.Rows.{truth}
 use Rattle.geometry.specs.Limits.{none, beyondState, isLost}
 use Rattle.geometry.specs.Report.{reporting, reportRefusal, marked, withOut, withLost}
 use Rattle.geometry.specs.declared.State.{State}
@@ -30,7 +30,7 @@ use Rattle.history.specs.World.{World, Event, admit, step, report, colle
 use Rattle.history.proofs.Admit.{admit-sure}
 use Rattle.history.proofs.Collect.{collect-sure}
 use Rattle.history.proofs.Decay.{decay-sure}
-use Rattle.history.proofs.Done.{done-sure, finished-sure}
+use Rattle.history.proofs.Done.{done-sure}
 use Rattle.history.proofs.Invariant.{Sure}
 use Rattle.history.proofs.Opened.{open-passed, open-sure}
 use Rattle.history.proofs.Report.{report-sure}
@@ -60,43 +60,45 @@ unfinished st r = refl
 
 module _ (w : World) (a : Account) (sure : Sure w a) where
   admit-kept : (write : Bool) (s mask : ℕ) (payload : List ℕ)
-      → Sure (play w (admit write s mask payload) .world) (noted w a (admit write s mask payload))
+      → Sure (play w (admit write s mask payload) .world) (noted play w a (admit write s mask payload))
   unfolding play noted admission admissionNoted
   admit-kept write s mask payload = go (truth (eqb number 0))
     where
       number : ℕ
       number = admitRefusal (w .state) (w .table) (w .work) (w .image) write s mask payload
 
-      go : (eqb number 0 ≡ true) ⊎ (eqb number 0 ≡ false) → Sure (play w (admit write s mask payload) .world) (noted w a (admit write s mask payload))
+      go : (eqb number 0 ≡ true) ⊎ (eqb number 0 ≡ false) → Sure (play w (admit write s mask payload) .world) (noted play w a (admit write s mask payload))
       go (inl e) =
           rw e (admit-sure w a sure write s mask payload (admit-passed (w .state) (w .table) (w .work) (w .image) write s mask payload (eqb-true number 0 e)))
       go (inr e) = rw (e, e) sure
 
-  collect-kept : (i : ℕ) (result : List ℕ) → Sure (play w (collect i result) .world) (noted w a (collect i result))
+  collect-kept : (i : ℕ) (result : List ℕ) → Sure (play w (collect i result) .world) (noted play w a (collect i result))
   unfolding play noted collection collecting
   collect-kept i result = go (truth (eqb number 0))
     where
       number : ℕ
       number = collectRefusal (w .state) (w .table) (w .work) i result
 
-      go : (eqb number 0 ≡ true) ⊎ (eqb number 0 ≡ false) → Sure (play w (collect i result) .world) (noted w a (collect i result))
+      go : (eqb number 0 ≡ true) ⊎ (eqb number 0 ≡ false) → Sure (play w (collect i result) .world) (noted play w a (collect i result))
       go (inl e) = rw e (collect-sure w a sure i result (collect-passed (w .state) (w .table) (w .work) i result (eqb-true number 0 e)))
       go (inr e) = rw e sure
 
   -- a second, different card would lose the array
-  report-kept : (c : ℕ) → Whole (play w (report c) .world) → Sure (play w (report c) .world) (noted w a (report c))
+  report-kept : (c : ℕ) → Whole (play w (report c) .world) → Sure (play w (report c) .world) (noted play w a (report c))
   unfolding play noted reporting marked Whole
   report-kept c = go (truth (eqb number 0))
     where
       number : ℕ
       number = reportRefusal (w .state) c
 
-      first : number ≡ 0 → (eqb (w .state .out) none ≡ true) ⊎ (eqb (w .state .out) none ≡ false) → Whole (record { state = marked (w .state) c; table = w .table; work = w .work; image = w .image })
-          → Sure (record { state = marked (w .state) c; table = w .table; work = w .work; image = w .image }) a
+      left : World
+      left = record { state = marked (w .state) c; table = w .table; work = w .work; image = w .image }
+
+      first : number ≡ 0 → (eqb (w .state .out) none ≡ true) ⊎ (eqb (w .state .out) none ≡ false) → Whole left → Sure left a
       first e (inl f) whole = rw f (report-sure w a sure c (eqb-true (w .state .out) none f) (report-below (w .state) c e))
       first e (inr f) whole = let lost : _≡_ {A = ℕ} 1 0 = rw f at whole in absurd (omega arith)
 
-      go : (eqb number 0 ≡ true) ⊎ (eqb number 0 ≡ false) → Whole (play w (report c) .world) → Sure (play w (report c) .world) (noted w a (report c))
+      go : (eqb number 0 ≡ true) ⊎ (eqb number 0 ≡ false) → Whole (play w (report c) .world) → Sure (play w (report c) .world) (noted play w a (report c))
       go (inl e) whole = rw e (first (eqb-true number 0 e) (truth (eqb (w .state .out) none)) (rw e at whole))
       go (inr e) whole = rw e sure
 
@@ -126,8 +128,8 @@ module _ (w : World) (a : Account) (sure : Sure w a) where
         done : meets ≡ false → (last ≡ true) ⊎ (last ≡ false)
             → Sure (record { state = w .state; table = made .table; work = made .work; image = made .image })
             (cond (eqb (made .reply .number) 0) (stepNoted (w .state) a i (isFinished (getD (made .table) i free))) a)
-        done e (inl l) = rw (e, put-there (stepped (w .state) r k), finished-last (w .state) r k, l) (finished-sure w a sure i k ok e l)
-        done e (inr l) = rw (e, put-there (stepped (w .state) r k), finished-last (w .state) r k, l) (done-sure w a sure i k ok e l)
+        done e (inl l) = rw (e, put-there (stepped (w .state) r k), finished-last (w .state) r k, l) (done-sure w a sure i k ok e true l)
+        done e (inr l) = rw (e, put-there (stepped (w .state) r k), finished-last (w .state) r k, l) (done-sure w a sure i k ok e false l)
 
         go : (meets ≡ true) ⊎ (meets ≡ false)
             → Sure (record { state = w .state; table = made .table; work = made .work; image = made .image })
@@ -135,20 +137,20 @@ module _ (w : World) (a : Account) (sure : Sure w a) where
         go (inl e) = rw (e, put-there (afresh (w .state) r), unfinished (w .state) r) (afresh-sure w a sure i k ok e)
         go (inr e) = done e (truth last)
 
-  step-kept : (i k : ℕ) → Sure (play w (step i k) .world) (noted w a (step i k))
+  step-kept : (i k : ℕ) → Sure (play w (step i k) .world) (noted play w a (step i k))
   unfolding play noted stepping
   step-kept i k = go (truth (eqb number 0))
     where
       number : ℕ
       number = stepRefusal (w .state) (w .table) (w .work) (w .image) i k
 
-      go : (eqb number 0 ≡ true) ⊎ (eqb number 0 ≡ false) → Sure (play w (step i k) .world) (noted w a (step i k))
+      go : (eqb number 0 ≡ true) ⊎ (eqb number 0 ≡ false) → Sure (play w (step i k) .world) (noted play w a (step i k))
       go (inl e) = rw e (accepted-kept i k (step-passed (w .state) (w .table) (w .work) (w .image) i k (eqb-true number 0 e)))
       go (inr e) = rw (e, e) sure
 
   -- ---- any event
 
-  pub event-kept : (e : Event) → Possible w e → Whole (play w e .world) → Sure (play w e .world) (noted w a e)
+  pub event-kept : (e : Event) → Possible w e → Whole (play w e .world) → Sure (play w e .world) (noted play w a e)
   event-kept (admit write s mask payload) p whole = admit-kept write s mask payload
   event-kept (step i k) p whole = step-kept i k
   event-kept (report c) p whole = report-kept c whole
@@ -172,6 +174,6 @@ whole-before w scan whole = whole
 whole-before w (decay image) whole = whole
 
 -- the invariant at the end of a history
-pub history-sure : {w : World} {a : Account} → History w a → Whole w → Sure w a
+pub history-sure : {w : World} {a : Account} → History play w a → Whole w → Sure w a
 history-sure (opened g out table work image ok) whole = open-sure g out table work image (open-passed g out table work image ok)
 history-sure (next {w} {a} h e p) whole = event-kept w a (history-sure h (whole-before w e whole)) e p whole

@@ -1,20 +1,18 @@
 -- The units of a mask one behind the other: how long they are, when two such rows of units are equal, and that collect hands over just these.
 -- Assumes nothing.
-use Prim.Native.Nat.{ℕ, zero, suc, _+_, _*_, _≤_, _<_, _^_}
+use Prim.Native.Nat.{ℕ, zero, suc, _+_, _*_, _<_}
 use mathlib.Core.Bool.{Bool, true, false, cond}
-use mathlib.Core.List.{List, [], _∷_, _++_, append-assoc, append-nil}
+use mathlib.Core.List.{List, [], _++_, append-assoc, append-nil}
 use mathlib.Core.Path.{_≡_, refl, sym, ap, ap₂, _∙_}
-use native.Mathlib.Nat.{add-zero, zero-add, mul-le-mul-right}
 use native.Mathlib.Omega.{arith}
-use lib.Count.{ones}
-use lib.ListN.{length, take, drop, length-append}
+use lib.ListN.{length, drop, length-append}
 use lib.Seq.{take-at, drop-drop, drop-append-add}
 use Rattle.terms.specs.Lists.{part, put, changes}
 use Rattle.terms.specs.Sets.{bit}
 use Rattle.geometry.specs.Store.{readAt}
 use Rattle.geometry.specs.declared.State.{State}
 use Rattle.record.specs.Life.{unitsOf}
-use Rattle.array.proofs.Rank.{rank-zero, rank-suc, rank-all}
+use Rattle.array.proofs.Rank.{rank-zero, rank-suc}
 use Rattle.array.specs.Collection.{handOver}
 use Rattle.array.specs.Lent.{rank}
 use Rattle.history.specs.Row.{gathered}

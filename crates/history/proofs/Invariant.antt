@@ -2,7 +2,7 @@
 -- without an open request rests on the account's row, and each with one works from that row towards the row that the request will leave.
 -- Assumes nothing.
 use Prim.Native.Nat.{ℕ, _*_, _<_}
-use mathlib.Core.Bool.{Bool, true, false}
+use mathlib.Core.Bool.{true, false}
 use mathlib.Core.List.{List, []}
 use mathlib.Core.Path.{_≡_}
 use lib.ListN.{length}

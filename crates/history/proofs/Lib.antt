@@ -1,28 +1,45 @@
--- Why the promise holds, by subject.
-pub mod Near
-pub mod Tables
+-- Why the promise is kept, in the order of the argument. The theorems that others cite are in Demand3.
+-- Placement, rows, tables, and what a stripe's theory looks at
+pub mod Placed
 pub mod Places
+pub mod Positions
 pub mod Rows
-pub mod Invariant
 pub mod Gather
+pub mod Tables
+pub mod Facts
+pub mod Parities
+pub mod Near
+-- The invariant, and what one record's turn leaves of it
+pub mod Invariant
 pub mod Turn
-pub mod Collect
-pub mod Fresh
+-- Each event keeps it
+pub mod ReadOff
+pub mod Opened
 pub mod Records
 pub mod Admit
 pub mod View
 pub mod Step
 pub mod Done
 pub mod Report
-pub mod Placed
+pub mod Collect
 pub mod Decay
-pub mod Positions
-pub mod ReadOff
-pub mod Parities
-pub mod Opened
 pub mod Events
+-- The promise follows
 pub mod Replies
 pub mod Stripes
 pub mod Promised
+-- Nothing depends on the bytes of the card that is out
 pub mod Unseen
 pub mod Scans
+pub mod Calls
+pub mod Alikes
+pub mod Independent
+-- The theorems
+pub mod Demand3
+pub mod Finish
+pub mod Lost
+-- Shown by computation
+pub mod Compute
+pub mod Starred
+pub mod Needed
+pub mod Impostors

@@ -1,25 +1,26 @@
 -- An accepted opening leaves a sure world: every record is free, and every stripe rests on the row that is read off the image.
 -- Assumes nothing.
-use Prim.Native.Nat.{ℕ, suc, _-_, _≤_, _<_}
+use Prim.Native.Nat.{ℕ, _≤_, _<_}
 use mathlib.Core.Bool.{Bool, true, false, cond, not, _&&_, _||_}
-use mathlib.Core.List.{List, [], _∷_}
+use mathlib.Core.List.{List, []}
 use mathlib.Core.Logic.{_⊎_, inl, inr}
-use mathlib.Core.Path.{_≡_, refl, sym, ap, _∙_, subst}
+use mathlib.Core.Path.{_≡_, refl, sym, _∙_}
 use native.Mathlib.Omega.{arith}
-use borrow.Author.Tests.{eqb-true, eqb-false, eq-eqb, not-false}
+use borrow.Author.Tests.{eqb-true, eq-eqb, not-false}
 use lib.Dec.{eqb}
-use lib.ListN.{length, getD, replicate, length-replicate, getD-replicate}
-use Rattle.terms.specs.Reply.{Reply, row, firstRow, refused, refusedOr13}
-use Rattle.terms.proofs.Rows.{true≢false, or-false-left, or-false-right, and-false-cases}
+use lib.ListN.{length, replicate, length-replicate, getD-replicate}
+use Rattle.terms.specs.Reply.{Reply, row, refused, refusedOr13}
+use Rattle.terms.proofs.Rows.{true≢false, or-false-left, or-false-right}
 use Rattle.geometry.proofs.Bounds.{Bounds, within-limits, within-limits-out}
-use Rattle.geometry.specs.Limits.{none, beyond, beyondState, geometryOf}
+use Rattle.geometry.specs.Limits.{none, beyond}
+use Rattle.geometry.proofs.Turns.{missingAt-is}
 use Rattle.geometry.specs.Placement.{outIn, missingAt}
 use Rattle.geometry.specs.Store.{imageWrong, workWrong, imageSize, workSize}
 use Rattle.geometry.specs.declared.Geometry.{Geometry}
 use Rattle.geometry.specs.declared.State.{State}
 use Rattle.parity.specs.Parity.{parityByte, rightParity, disagreement}
 use Rattle.parity.specs.Scan.{nothingHeld}
-use Rattle.record.specs.Life.{free, isFree, isOpen, unitsOf, missingIn}
+use Rattle.record.specs.Life.{free}
 use Rattle.record.specs.declared.Record.{Record}
 use Rattle.array.proofs.Passed.{passed, image-length, work-length, table-length}
 use Rattle.array.specs.Lent.{tableWrong}
@@ -33,7 +34,6 @@ use Rattle.history.specs.World.{World}
 use Rattle.history.proofs.Invariant.{Sure}
 use Rattle.history.proofs.Parities.{right-elim}
 use Rattle.history.proofs.Placed.{layout}
-use Rattle.history.proofs.Places.{missing-card}
 use Rattle.history.proofs.ReadOff.{opened-size, opened-rests}
 use Rattle.history.proofs.Tables.{sound-intro, free-sound}
 
@@ -91,7 +91,7 @@ module _ (g : Geometry) (out : ℕ) (table : List Record) (work image : List ℕ
       where
         go : (out < g .cards) ⊎ (out ≡ none) → parityByte (g .cards) (g .stripes) (g .block) image s b ≡ 0
         go (inl l) =
-            absurd (omega (arith, missing-card (g .cards) s out l, layout (g .cards) (omega (arith, bounds .cards-low)) .position-below s out))
+            absurd (omega (arith, missingAt-is (g .cards) s out l, layout (g .cards) (omega (arith, bounds .cards-low)) .position-below s out))
         go (inr e) =
             right-elim (g .cards) (g .stripes) (g .block) image nothingHeld (not-false _ (rw (eq-eqb out none e) at (tests .parity))) s b hs hb refl
 

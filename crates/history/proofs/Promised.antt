@@ -1,26 +1,23 @@
--- The theorem: at the end of every history in which the array is not lost, the promise holds.
+-- From the invariant to the promise: what is due and what is counted, that no call is refused for what it is lent, and that every open request
+-- has a step to take.
 -- Assumes nothing.
-use Prim.Native.Nat.{ℕ, _+_, _-_, _*_, _≤_, _<_}
-use mathlib.Core.Bool.{Bool, true, false, cond, not, _&&_, _||_}
-use mathlib.Core.List.{List, [], _++_}
+use Prim.Native.Nat.{ℕ, _+_, _*_, _≤_, _<_}
+use mathlib.Core.Bool.{Bool, true, false, cond, not, _&&_}
+use mathlib.Core.List.{List, _++_}
 use mathlib.Core.Logic.{_⊎_, inl, inr}
-use mathlib.Core.Path.{_≡_, refl, sym, ap, ap₂, _∙_, subst}
+use mathlib.Core.Path.{_≡_, refl, sym, ap, ap₂, _∙_}
 use native.Mathlib.Omega.{arith}
 use borrow.Author.Tests.{leb-true, le-ltb, not-true}
-use lib.Count.{ones}
-use lib.Dec.{leb, ltb, eqb}
-use lib.ListN.{length, getD, drop}
+use lib.Dec.{leb, ltb}
+use lib.ListN.{length, drop}
 use Rattle.terms.specs.Lists.{part}
-use Rattle.terms.specs.Reply.{Reply, accepted}
+use Rattle.terms.specs.Reply.{accepted}
 use Rattle.terms.proofs.Lists.{length-part}
-use Rattle.terms.proofs.Rows.{true≢false, and-left, and-right, or-cases, truth}
+use Rattle.terms.proofs.Rows.{and-left, and-right, truth}
 use Rattle.geometry.proofs.Apart.{read-inside}
-use Rattle.geometry.proofs.Bounds.{Bounds, within-limits}
-use Rattle.geometry.specs.Limits.{geometryOf}
 use Rattle.geometry.specs.Store.{readAt}
 use Rattle.geometry.specs.declared.State.{State}
-use Rattle.graph.proofs.Laws.{progress}
-use Rattle.record.specs.Life.{free, isFree, isOpen, isFinished, isWrite, unitsOf, chosenAt}
+use Rattle.record.specs.Life.{isFree, isOpen, isFinished, isWrite, unitsOf}
 use Rattle.record.specs.Sound.{rightCount, lacksNone}
 use Rattle.record.specs.declared.Record.{Record}
 use Rattle.array.proofs.Granted.{Lently, admit-lent, step-lent, collect-lent, report-lent, scan-lent, step-granted, collect-granted}
@@ -29,27 +26,21 @@ use Rattle.array.proofs.Rank.{rank-all}
 use Rattle.array.specs.Collection.{collection, collecting, handOver}
 use Rattle.array.specs.Lent.{rank, unitBytes}
 use Rattle.array.specs.Refusals.{collectRefusal, resultShort, stepReady}
+use Rattle.stripe.proofs.Heart.{numbers}
 use Rattle.history.specs.Account.{Account}
-use Rattle.history.specs.History.{History, Whole}
 use Rattle.history.specs.Promise.{recordAt, blocksRead, Promise}
 use Rattle.history.specs.World.{World, Event, admit, step, report, collect, scan, decay, play}
-use Rattle.history.proofs.Events.{history-sure}
+use Rattle.history.proofs.Facts.{fits}
 use Rattle.history.proofs.Gather.{gathered-length, hand-over}
-use Rattle.history.proofs.Invariant.{Matches, Sure}
+use Rattle.history.proofs.Invariant.{Matches, Sure, requestOf}
 use Rattle.history.proofs.Records.{mask-units}
 use Rattle.history.proofs.Replies.{admit-number, step-number, collect-number, report-number, scan-number}
 use Rattle.history.proofs.Stripes.{promised-unit, promised-parity, promised-inferred, promised-scan}
-use Rattle.history.proofs.Tables.{Fit, fit, sound-elim, open-not-free, finished-not-free, finished-not-open}
+use Rattle.history.proofs.Tables.{open-not-free, finished-not-free}
 
 module _ (w : World) (a : Account) (sure : Sure w a) where
   abbrev st : State
   st = w .state
-
-  limits : Bounds (st .cards) (st .stripes) (st .block) (st .records)
-  limits = within-limits (geometryOf st) (st .out) (sure .right .limits)
-
-  fits : (i : ℕ) → i < st .records → isFree (recordAt w i) ≡ false → Fit st (recordAt w i)
-  fits i h f = fit st (recordAt w i) (sound-elim st (w .table) (sure .right .is-sound) .each i (omega (arith, sure .right .table-right))) f
 
   -- ---- what is due of a finished record
 
@@ -77,7 +68,7 @@ module _ (w : World) (a : Account) (sure : Sure w a) where
     unfolding unitBytes
     bytes-due reading =
         ap (λ (k : ℕ). k * st .block)
-        (sym (rank-all (unitsOf st) (recordAt w i .mask) (mask-units (unitsOf st) (recordAt w i .mask) (fits i h (finished-not-free (recordAt w i) finished) .mask-legal))))
+        (sym (rank-all (unitsOf st) (recordAt w i .mask) (mask-units (unitsOf st) (recordAt w i .mask) (fits (sure .right) i h (finished-not-free (recordAt w i) finished) .mask-legal))))
         ∙ sym (due-length reading)
 
     -- what collect hands over
@@ -126,7 +117,7 @@ module _ (w : World) (a : Account) (sure : Sure w a) where
   most-open : (i : ℕ) → i < st .records → isOpen (recordAt w i) ≡ true → a .entry i .steps ≤ 2 * unitsOf st + 2
   unfolding rightCount
   most-open i h o =
-      let count = fits i h (open-not-free (recordAt w i) o) .right-count in
+      let count = fits (sure .right) i h (open-not-free (recordAt w i) o) .right-count in
       let l = leb-true (recordAt w i .count) (2 * unitsOf st + 2) (and-right (not (lacksNone st (recordAt w i))) _ (rw o at count)) in
       omega (arith, sure .entries i h (open-not-free (recordAt w i) o) .same-count)
 
@@ -137,7 +128,7 @@ module _ (w : World) (a : Account) (sure : Sure w a) where
       go : (isOpen (recordAt w i) ≡ true) ⊎ (isOpen (recordAt w i) ≡ false) → a .entry i .steps ≤ 2 * unitsOf st + 3
       go (inl o) = omega (arith, most-open i h o)
       go (inr o) =
-          let count = fits i h f .right-count in
+          let count = fits (sure .right) i h f .right-count in
           let l = leb-true (recordAt w i .count) (2 * unitsOf st + 3) (and-right (lacksNone st (recordAt w i)) _ (rw o at count)) in
           omega (arith, sure .entries i h f .same-count)
 
@@ -158,12 +149,12 @@ module _ (w : World) (a : Account) (sure : Sure w a) where
   unfolding rightCount lacksNone stepReady
   goes-on i h o =
       let r = recordAt w i in
-      let count = fits i h (open-not-free r o) .right-count in
+      let count = fits (sure .right) i h (open-not-free r o) .right-count in
       let wanting = not-true (lacksNone st r) (and-left (not (lacksNone st r)) (leb (r .count) (2 * unitsOf st + 2)) (rw o at count)) in
-      let next = progress (unitsOf st) (r .graph) (r .mask) (chosenAt st r) (r .done) wanting in
+      let next = numbers (unitsOf st) .goes-on (requestOf st r) wanting in
       (next .0, step-number w i (next .0) ∙ step-granted st (w .table) (w .work) (w .image) (sure .right) i (next .0) h o (next .1))
 
-  pub promise : Promise w a
+  pub promise : Promise play w a
   promise =
       record {
         reads = sure .read;
@@ -181,7 +172,3 @@ module _ (w : World) (a : Account) (sure : Sure w a) where
         lent-right = lent-right;
         progress = goes-on;
       }
-
--- DEMAND 3
-pub promised : {w : World} {a : Account} → History w a → Whole w → Promise w a
-promised {w} {a} h whole = promise w a (history-sure h whole)

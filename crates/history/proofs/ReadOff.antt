@@ -1,10 +1,9 @@
 -- The row that an image gives, a missing unit as the exclusive or of the rest: every stripe rests on it whose parity is right or of which a
 -- position is missing.
 -- Assumes nothing.
-use Prim.Native.Nat.{ℕ, suc, _+_, _-_, _*_, _≤_, _<_}
+use Prim.Native.Nat.{ℕ, suc, _*_, _≤_, _<_}
 use mathlib.Core.Bool.{Bool, true, false, cond}
 use mathlib.Core.List.{List}
-use mathlib.Core.Logic.{_⊎_, inl, inr}
 use mathlib.Core.Path.{_≡_, refl, sym, ap, _∙_}
 use native.Mathlib.Decide.{decLt}
 use native.Mathlib.Omega.{arith}
@@ -12,15 +11,13 @@ use borrow.Author.Tests.{eqb-true, eqb-false, eq-eqb, ne-eqb}
 use lib.Bits.{bitXor}
 use lib.Dec.{eqb}
 use lib.ListN.{length, getD}
-use Rattle.terms.specs.Lists.{tabulate, part}
 use Rattle.terms.specs.Sets.{xorTo}
 use Rattle.terms.proofs.Lists.{length-part, getD-part, length-tabulate, getD-tabulate}
-use Rattle.terms.proofs.Rows.{truth}
 use Rattle.terms.proofs.Sets.{xorTo-cong}
 use Rattle.block.proofs.Sums.{changedTo, others, term-sum-zero}
 use Rattle.block.proofs.Xor.{xor-zero-eq}
 use Rattle.geometry.proofs.Apart.{cell-inside}
-use Rattle.geometry.specs.Placement.{cardAt, positionOf, outIn, stripeOf, unitOf, cardOf, blockOf}
+use Rattle.geometry.specs.Placement.{cardAt, positionOf, outIn, stripeOf, unitOf, cardOf}
 use Rattle.geometry.specs.Placing.{Placing}
 use Rattle.geometry.specs.Store.{cellAt, imageSize}
 use Rattle.geometry.specs.declared.State.{State}

@@ -1,26 +1,26 @@
 -- The records that calls make are sound: at admission, after a done step, after a fresh choice.
 -- Assumes nothing.
-use Prim.Native.Nat.{ℕ, _+_, _*_, _^_, _≤_, _<_}
+use Prim.Native.Nat.{ℕ, _+_, _*_, _^_, _<_}
 use mathlib.Core.Bool.{Bool, true, false, cond, not, _&&_, _||_}
-use mathlib.Core.Path.{_≡_, refl, sym, ap, _∙_}
+use mathlib.Core.Path.{_≡_, refl, sym, ap}
 use native.Mathlib.Omega.{arith}
 use borrow.Author.Tests.{eq-eqb, eqb-false, ltb-true, le-leb, not-true}
 use lib.Dec.{ltb, leb, eqb}
 use Rattle.terms.specs.Sets.{within}
 use Rattle.terms.proofs.Rows.{and-left, and-right, and-both}
 use Rattle.geometry.specs.Limits.{none}
-use Rattle.geometry.specs.Placement.{outIn, missingAt}
+use Rattle.geometry.specs.Placement.{outIn}
 use Rattle.geometry.specs.declared.State.{State}
 use Rattle.graph.proofs.Laws.{closed-none}
 use Rattle.graph.specs.Choice.{choose}
-use Rattle.graph.specs.Order.{after, complete, closed}
-use Rattle.record.specs.Life.{isOpen, isFinished, isWrite, unitsOf, chosenAt, missingIn, admitted, stepped, afresh}
+use Rattle.graph.specs.Order.{after, complete}
+use Rattle.record.specs.Life.{isWrite, unitsOf, chosenAt, missingIn, admitted, stepped, afresh}
 use Rattle.record.specs.Sound.{legalMask, legalChosen, rightGraph, rightSteps, lacksNone, rightCount}
 use Rattle.record.specs.declared.Record.{Record}
-use Rattle.stripe.proofs.Counts.{count-bound, open-bound}
+use Rattle.stripe.proofs.Chosen.{Chosen, degraded-read, plain-read, parity-failed, large-write, reconstruct-out, small-out, small-none, reconstruct-none, chosen}
+use Rattle.stripe.proofs.Heart.{numbers}
 use Rattle.stripe.specs.Invariant.{Proper}
 use Rattle.stripe.specs.Request.{begun, advanced, chosenAfresh}
-use Rattle.history.proofs.Fresh.{fresh-wanting, choice-legal}
 use Rattle.history.proofs.Invariant.{requestOf}
 use Rattle.history.proofs.Tables.{Fit}
 
@@ -32,6 +32,22 @@ mask-some n mask e = eqb-false mask 0 (not-true (eqb mask 0) (and-left (not (eqb
 pub mask-units : (n mask : ℕ) → legalMask n mask ≡ true → mask < 2 ^ n
 unfolding legalMask
 mask-units n mask e = ltb-true mask (2 ^ n) (and-right (not (eqb mask 0)) (ltb mask (2 ^ n)) e)
+
+-- the table chooses one of the six graphs
+module _ (n mask x : ℕ) where
+  legal-row : {w : Bool} {g : ℕ} → Chosen n mask x w g → within 1 6 g ≡ true
+  unfolding within
+  legal-row (degraded-read m) = refl
+  legal-row (plain-read m) = refl
+  legal-row (parity-failed e) = refl
+  legal-row (large-write e f) = refl
+  legal-row (reconstruct-out e) = refl
+  legal-row (small-out e) = refl
+  legal-row (small-none e f) = refl
+  legal-row (reconstruct-none e) = refl
+
+  choice-legal : (write : Bool) → within 1 6 (choose n write mask x) ≡ true
+  choice-legal write = legal-row (chosen n mask x write)
 
 -- the same requests, as a stripe's theory has them
 pub request-begun : (st : State) (write : Bool) (s mask : ℕ)
@@ -60,7 +76,7 @@ chosen-now st r e = go (eqb (r .chosen) none)
 
 pub admitted-fit : (st : State) (write : Bool) (s mask : ℕ) → s < st .stripes → legalMask (unitsOf st) mask ≡ true
     → Fit st (admitted st write s mask)
-unfolding admitted rightGraph rightSteps rightCount lacksNone
+unfolding admitted begun rightGraph rightSteps rightCount lacksNone
 admitted-fit st write s mask h m =
     record {
       going = refl;
@@ -72,10 +88,19 @@ admitted-fit st write s mask h m =
       right-graph = eq-eqb (choose (unitsOf st) write mask (missingIn st s)) _ (ap (λ (w : Bool). choose (unitsOf st) w mask (missingIn st s)) (sym (same write)));
       right-steps = closed-none (unitsOf st) (choose (unitsOf st) write mask (missingIn st s)) mask (missingIn st s);
       right-count = and-both _ (leb 0 (2 * unitsOf st + 2))
-          (ap not (fresh-wanting (unitsOf st) mask (missingIn st s) (mask-some (unitsOf st) mask m) (mask-units (unitsOf st) mask m) write))
+          (ap not wanting)
           (le-leb 0 (2 * unitsOf st + 2) (omega arith));
     }
   where
+    n : ℕ
+    n = unitsOf st
+
+    x : ℕ
+    x = missingIn st s
+
+    wanting : complete n (choose n write mask x) mask x 0 ≡ false
+    wanting = numbers n .starts-wanting x (begun n write mask x) (numbers n .started x write mask (mask-some n mask m) (mask-units n mask m)) refl
+
     kind : (w : Bool) → within 0 1 (cond w 1 0) ≡ true
     kind true = unfold within in refl
     kind false = unfold within in refl
@@ -105,14 +130,14 @@ stepped-fit st r k x f p =
 
     counted : (t : Bool) → complete (unitsOf st) (r .graph) (r .mask) (chosenAt st r) (after (r .done) k) ≡ t
         → cond (eqb (cond t 2 1) 1) (not t && leb (r .count + 1) (2 * unitsOf st + 2)) (t && leb (r .count + 1) (2 * unitsOf st + 3)) ≡ true
-    counted true e = le-leb (r .count + 1) (2 * unitsOf st + 3) (count-bound (unitsOf st) x (requestOf st (stepped st r k)) p)
-    counted false e = le-leb (r .count + 1) (2 * unitsOf st + 2) (open-bound (unitsOf st) x (requestOf st (stepped st r k)) p e)
+    counted true e = le-leb (r .count + 1) (2 * unitsOf st + 3) (numbers (unitsOf st) .at-most x (requestOf st (stepped st r k)) p)
+    counted false e = le-leb (r .count + 1) (2 * unitsOf st + 2) (numbers (unitsOf st) .at-most-open x (requestOf st (stepped st r k)) p e)
 
 pub afresh-fit : (st : State) (r : Record) (x : ℕ) → Fit st r → Proper (unitsOf st) x (requestOf st (afresh st r)) → Fit st (afresh st r)
 unfolding afresh rightGraph rightSteps rightCount lacksNone
 afresh-fit st r x f p =
     let y = missingIn st (r .stripe) in
-    let wanting = fresh-wanting (unitsOf st) (r .mask) y (p .some-unit) (p .units-only) (isWrite r) in
+    let wanting = numbers (unitsOf st) .starts-wanting x (requestOf st (afresh st r)) p refl in
     record {
       going = refl;
       kind = f .kind;
@@ -123,5 +148,5 @@ afresh-fit st r x f p =
       right-graph = eq-eqb (choose (unitsOf st) (isWrite r) (r .mask) y) (choose (unitsOf st) (isWrite r) (r .mask) y) refl;
       right-steps = closed-none (unitsOf st) (choose (unitsOf st) (isWrite r) (r .mask) y) (r .mask) y;
       right-count = and-both _ (leb (r .count + 1) (2 * unitsOf st + 2)) (ap not wanting)
-          (le-leb (r .count + 1) (2 * unitsOf st + 2) (open-bound (unitsOf st) x (requestOf st (afresh st r)) p wanting));
+          (le-leb (r .count + 1) (2 * unitsOf st + 2) (numbers (unitsOf st) .at-most-open x (requestOf st (afresh st r)) p wanting));
     }

@@ -6,7 +6,7 @@ use mathlib.Core.List.{List}
 use mathlib.Core.Path.{_≡_, refl, sym, _∙_}
 use borrow.Author.Tests.{eqb-true}
 use lib.Dec.{eqb}
-use Rattle.terms.specs.Reply.{Reply, refused, refusedOr13}
+use Rattle.terms.specs.Reply.{Reply, refused}
 use Rattle.geometry.specs.Report.{reporting, reportRefusal}
 use Rattle.parity.specs.Parity.{disagreement}
 use Rattle.record.specs.Life.{missingIn, unitsOf}

@@ -1,33 +1,31 @@
 -- The first card that is reported goes out: no byte changes, and the world stays sure with one position fewer to rely on in each stripe.
 -- Assumes nothing.
-use Prim.Native.Nat.{ℕ, _-_, _≤_, _<_}
-use mathlib.Core.Bool.{Bool, true, false, cond, not, _&&_, _||_}
-use mathlib.Core.List.{List}
+use Prim.Native.Nat.{ℕ, _<_}
+use mathlib.Core.Bool.{Bool, true, false, not, _||_}
 use mathlib.Core.Logic.{_⊎_, inl, inr}
-use mathlib.Core.Path.{_≡_, refl, sym, ap, _∙_, subst}
+use mathlib.Core.Path.{_≡_, refl, ap, _∙_}
 use native.Mathlib.Omega.{arith}
 use borrow.Author.Tests.{eqb-true, eq-eqb, lt-ltb, not-false}
 use lib.Dec.{eqb, ltb}
-use lib.ListN.{length}
 use Rattle.terms.proofs.Rows.{and-left, and-both, or-cases}
-use Rattle.geometry.proofs.Bounds.{Bounds, within-limits}
-use Rattle.geometry.specs.Limits.{none, legal, legalOut, beyond, beyondState, geometryOf}
-use Rattle.geometry.specs.Placement.{outIn, missingAt}
+use Rattle.geometry.proofs.Bounds.{Bounds}
+use Rattle.geometry.specs.Limits.{none, legal, legalOut, beyond, beyondState}
+use Rattle.geometry.proofs.Turns.{missingAt-none}
+use Rattle.geometry.specs.Placement.{outIn}
 use Rattle.geometry.specs.Report.{withOut}
 use Rattle.geometry.specs.declared.State.{State}
-use Rattle.record.specs.Life.{isFree, isOpen, unitsOf, missingIn}
-use Rattle.record.specs.Sound.{soundRecord, legalChosen, rightGraph, rightSteps, rightCount, lacksNone, allZero}
+use Rattle.record.specs.Life.{isFree, unitsOf, missingIn}
+use Rattle.record.specs.Sound.{soundRecord, legalChosen, rightGraph, rightSteps, rightCount, lacksNone}
 use Rattle.record.specs.declared.Record.{Record}
 use Rattle.array.specs.Lent.{unitBytes}
 use Rattle.stripe.proofs.Bytes.{bytes}
-use Rattle.stripe.proofs.Counts.{failed-proper}
-use Rattle.stripe.proofs.Kept.{failed-idle, failed-faithful}
+use Rattle.stripe.proofs.Heart.{numbers, heart}
 use Rattle.history.specs.Account.{Account, Entry}
 use Rattle.history.specs.Promise.{recordAt, blocksRead}
 use Rattle.history.specs.Row.{writtenRow, unitIn}
 use Rattle.history.specs.World.{World}
+use Rattle.history.proofs.Facts.{bounds}
 use Rattle.history.proofs.Invariant.{Matches, Working, Sure}
-use Rattle.history.proofs.Places.{missing-none}
 use Rattle.history.proofs.Rows.{rowOf, afterRow}
 use Rattle.history.proofs.Tables.{Fit, Sound, fit, fit-sound, sound-elim, sound-intro}
 
@@ -39,13 +37,13 @@ module _ (w : World) (a : Account) (sure : Sure w a) (c : ℕ) (none-out : w .st
   out = withOut st c
 
   limits : Bounds (st .cards) (st .stripes) (st .block) (st .records)
-  limits = within-limits (geometryOf st) (st .out) (sure .right .limits)
+  limits = bounds (sure .right)
 
   -- no position of a stripe was missing
   none-missing : (s : ℕ) → unitsOf st < missingIn st s
   unfolding outIn
   none-missing s =
-      let e : missingIn st s ≡ st .cards = missing-none (st .cards) s (st .out) (omega (arith, none-out, limits .cards-high)) in
+      let e : missingIn st s ≡ st .cards = missingAt-none (st .cards) s (st .out) (omega (arith, none-out, limits .cards-high)) in
       omega (arith, limits .cards-low)
 
   within-now : beyondState out ≡ false
@@ -108,8 +106,8 @@ module _ (w : World) (a : Account) (sure : Sure w a) (c : ℕ) (none-out : w .st
   unfolding rowOf afterRow writtenRow unitIn
   works-out i r m =
       record {
-        proper = failed-proper (unitsOf st) (missingIn st (r .stripe)) (missingIn out (r .stripe)) _ (m .proper) (none-missing (r .stripe));
-        faithful = λ b hb. failed-faithful bytes (unitsOf st) (missingIn st (r .stripe)) (missingIn out (r .stripe)) _ _ _ _ (m .faithful b hb) (none-missing (r .stripe));
+        proper = numbers (unitsOf st) .failed (missingIn st (r .stripe)) (missingIn out (r .stripe)) _ (m .proper) (none-missing (r .stripe));
+        faithful = λ b hb. heart bytes (unitsOf st) .failed (missingIn st (r .stripe)) (missingIn out (r .stripe)) _ _ _ _ (m .faithful b hb) (none-missing (r .stripe));
       }
 
   pub report-sure : Sure (record { state = out; table = w .table; work = w .work; image = w .image }) a
@@ -127,7 +125,7 @@ module _ (w : World) (a : Account) (sure : Sure w a) (c : ℕ) (none-out : w .st
         row-size = sure .row-size;
         entries = λ i h f. matches-out (recordAt w i) (a .entry i) (sure .entries i h f);
         resting = λ s h free-now b hb.
-            failed-idle bytes (unitsOf st) (missingIn st s) (missingIn out s) _ _ (sure .resting s h free-now b hb) (none-missing s);
+            heart bytes (unitsOf st) .failed-idle (missingIn st s) (missingIn out s) _ _ (sure .resting s h free-now b hb) (none-missing s);
         working = λ i h o. works-out i (recordAt w i) (sure .working i h o);
         read = sure .read;
       }

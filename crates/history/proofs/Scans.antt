@@ -3,16 +3,15 @@
 use Prim.Native.Nat.{ℕ, _≤_, _<_}
 use mathlib.Core.Bool.{Bool, true, false, cond, not, _&&_, _||_}
 use mathlib.Core.List.{List, [], _∷_}
-use mathlib.Core.Logic.{_⊎_, inl, inr}
-use mathlib.Core.Path.{_≡_, refl, sym, ap, ap₂, _∙_}
+use mathlib.Core.Path.{_≡_, refl, ap}
 use native.Mathlib.Omega.{arith}
-use borrow.Author.Tests.{eqb-true, eqb-false, eq-eqb, not-true, not-false}
+use borrow.Author.Tests.{eqb-true, eqb-false, not-true, not-false}
 use lib.Dec.{eqb, ltb}
 use lib.ListN.{length, replicate}
 use Rattle.terms.specs.Reply.{Reply, row, firstRow, accepted, refusedOr13, onAccept}
-use Rattle.terms.proofs.Rows.{true≢false, truth, and-left, and-right}
+use Rattle.terms.proofs.Rows.{and-left, and-right}
 use Rattle.terms.proofs.Sets.{lowest-le}
-use Rattle.geometry.proofs.Bounds.{Bounds, within-limits}
+use Rattle.geometry.proofs.Bounds.{within-limits}
 use Rattle.geometry.specs.Limits.{none, beyond, beyondState, isLost, geometryOf}
 use Rattle.geometry.specs.Placement.{outIn}
 use Rattle.geometry.specs.Store.{imageWrong, workWrong}

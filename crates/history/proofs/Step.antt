@@ -1,6 +1,6 @@
 -- An accepted step of an open record: what both of its outcomes rest on, and the fresh choice, where it meets the card that is out.
 -- Assumes nothing.
-use Prim.Native.Nat.{ℕ, _+_, _-_, _*_, _≤_, _<_}
+use Prim.Native.Nat.{ℕ, _+_, _≤_, _<_}
 use mathlib.Core.Bool.{Bool, true, false, cond, not, _&&_}
 use mathlib.Core.List.{List, []}
 use mathlib.Core.Path.{_≡_, refl, sym, ap, _∙_, subst}
@@ -9,31 +9,29 @@ use borrow.Author.Tests.{eqb-true, eq-eqb}
 use lib.Dec.{eqb}
 use lib.ListN.{length, set}
 use Rattle.terms.proofs.Rows.{true≢false}
-use Rattle.geometry.proofs.Bounds.{Bounds, within-limits}
-use Rattle.geometry.specs.Limits.{geometryOf}
-use Rattle.geometry.specs.declared.State.{State}
+use Rattle.geometry.proofs.Bounds.{Bounds}
 use Rattle.graph.specs.Order.{ready}
 use Rattle.graph.specs.Steps.{Step, rd, xr, wr, nil, stepOf}
-use Rattle.record.specs.Life.{isFree, isOpen, isFinished, isWrite, unitsOf, chosenAt, missingIn, afresh}
+use Rattle.record.specs.Life.{isOpen, unitsOf, chosenAt, missingIn, afresh}
 use Rattle.record.specs.declared.Record.{Record}
 use Rattle.array.proofs.Passed.{Ready}
 use Rattle.array.proofs.Steps.{Within}
 use Rattle.array.specs.Refusals.{stepReady}
 use Rattle.array.specs.Stepping.{meetsOut}
 use Rattle.stripe.proofs.Bytes.{bytes}
-use Rattle.stripe.proofs.Counts.{afresh-proper}
-use Rattle.stripe.proofs.Kept.{afresh-faithful}
+use Rattle.stripe.proofs.Heart.{numbers, heart}
 use Rattle.stripe.proofs.Readied.{Kind, a-read, a-sum, a-write, readied}
 use Rattle.stripe.specs.Blocks.{On, by-read, by-write, changed}
-use Rattle.stripe.specs.Invariant.{Proper, Faithful}
+use Rattle.stripe.specs.Invariant.{Proper}
 use Rattle.stripe.specs.Request.{Request, chosenAfresh}
-use Rattle.history.specs.Account.{Account, Entry, counted}
+use Rattle.history.specs.Account.{Account, counted}
 use Rattle.history.specs.Promise.{recordAt}
 use Rattle.history.specs.World.{World}
-use Rattle.history.proofs.Invariant.{Matches, Working, Sure, requestOf, viewOf}
+use Rattle.history.proofs.Facts.{bounds, open-fits}
+use Rattle.history.proofs.Invariant.{Matches, Working, Sure, requestOf}
 use Rattle.history.proofs.Records.{afresh-fit, request-afresh}
-use Rattle.history.proofs.Rows.{rowOf, afterRow}
-use Rattle.history.proofs.Tables.{Fit, Sound, fit, fit-sound, sound-elim, open-not-free}
+use Rattle.history.proofs.Rows.{afterRow}
+use Rattle.history.proofs.Tables.{Fit, Sound, fit-sound, sound-elim, open-not-free}
 use Rattle.history.proofs.Turn.{Turn, turned}
 
 -- ---- a step meets the missing position, or does not
@@ -53,7 +51,7 @@ on-meets x s by-write = eq-eqb x x refl
 pub misses : (x : ℕ) (s : Step) → meetsOut x s ≡ false → ¬ On x s
 misses x s e o = true≢false (sym (on-meets x s o) ∙ e)
 
-kind-within : (n N k : ℕ) (s : Step) → n < N → Kind n k s → Within N s
+pub kind-within : (n N k : ℕ) (s : Step) → n < N → Kind n k s → Within N s
 kind-within n N k s h (a-read l) = omega arith
 kind-within n N k s h a-sum = tt
 kind-within n N k s h (a-write l) = omega arith
@@ -76,7 +74,7 @@ module _ (w : World) (a : Account) (sure : Sure w a) (i k : ℕ) (ok : Ready (w 
   x = missingIn (w .state) (r .stripe)
 
   pub limits : Bounds (w .state .cards) (w .state .stripes) (w .state .block) (w .state .records)
-  limits = within-limits (geometryOf (w .state)) (w .state .out) (sure .right .limits)
+  limits = bounds (sure .right)
 
   table-sound : Sound (w .state) (w .table)
   table-sound = sound-elim (w .state) (w .table) (sure .right .is-sound)
@@ -85,7 +83,7 @@ module _ (w : World) (a : Account) (sure : Sure w a) (i k : ℕ) (ok : Ready (w 
   in-table = omega (arith, ok .record-below, sure .right .table-right)
 
   pub fits : Fit (w .state) r
-  fits = fit (w .state) r (table-sound .each i in-table) (open-not-free r (ok .is-open))
+  fits = open-fits (sure .right) i (ok .record-below) (ok .is-open)
 
   pub works : Working (w .state) (w .work) (w .image) (a .row) (a .entry i) i r
   works = sure .working i (ok .record-below) (ok .is-open)
@@ -140,7 +138,7 @@ module _ (w : World) (a : Account) (sure : Sure w a) (i k : ℕ) (ok : Ready (w 
     as-chosen = sym (request-afresh (w .state) r)
 
     proper : Proper n x (requestOf (w .state) chosen)
-    proper = subst (λ (q : Request). Proper n x q) as-chosen (afresh-proper n x (requestOf (w .state) r) (works .proper) x-below k is-ready on-step)
+    proper = subst (λ (q : Request). Proper n x q) as-chosen (numbers n .afresh x (requestOf (w .state) r) k (works .proper) x-below is-ready on-step)
 
     works-afresh : Working (w .state) (w .work) (w .image) (a .row) (counted (w .state) (a .row) (a .entry i) false) i chosen
     unfolding afresh chosenAfresh counted afterRow
@@ -148,7 +146,7 @@ module _ (w : World) (a : Account) (sure : Sure w a) (i k : ℕ) (ok : Ready (w 
         record {
           proper = proper;
           faithful = λ b hb.
-              afresh-faithful bytes n x (requestOf (w .state) r) _ _ _ (works .proper) (works .faithful b hb) x-below k is-ready on-step;
+              heart bytes n .afresh x (requestOf (w .state) r) k _ _ _ (works .proper) (works .faithful b hb) x-below is-ready on-step;
         }
 
     turn : Turn w a i (r .stripe) chosen (w .work) (w .image) (a .row) (counted (w .state) (a .row) (a .entry i) false)

@@ -1,41 +1,42 @@
 -- The promise's part on stripes: a stripe with no open request holds the row and its parity on working cards, a missing unit is the exclusive
 -- or of the rest, and a scan finds parity right.
 -- Assumes nothing.
-use Prim.Native.Nat.{ℕ, suc, _+_, _-_, _*_, _≤_, _<_}
+use Prim.Native.Nat.{ℕ, suc, _*_, _≤_, _<_}
 use mathlib.Core.Bool.{Bool, true, false, cond}
 use mathlib.Core.List.{List}
-use mathlib.Core.Path.{_≡_, refl, sym, ap, _∙_, subst}
+use mathlib.Core.Path.{_≡_, refl, sym, ap, _∙_}
 use native.Mathlib.Omega.{arith}
 use borrow.Author.Tests.{eqb-false}
 use lib.Dec.{eqb}
 use lib.ListN.{length, getD}
 use lib.Seq.{ext-getD}
-use Rattle.terms.specs.Lists.{tabulate}
 use Rattle.terms.specs.Reply.{accepted}
 use Rattle.terms.specs.Sets.{xorTo}
 use Rattle.terms.proofs.Lists.{length-tabulate, getD-tabulate}
 use Rattle.terms.proofs.Sets.{xorTo-cong}
 use Rattle.block.proofs.Sums.{others, sum-zero-term}
-use Rattle.geometry.proofs.Bounds.{Bounds, within-limits}
-use Rattle.geometry.specs.Limits.{none, geometryOf}
+use Rattle.geometry.proofs.Bounds.{Bounds}
+use Rattle.geometry.specs.Limits.{none}
+use Rattle.geometry.proofs.Turns.{missingAt-none}
 use Rattle.geometry.specs.Placement.{cardAt, positionOf, outIn, stripeOf, unitOf, cardOf, blockOf}
 use Rattle.geometry.specs.Placing.{Placing}
 use Rattle.geometry.specs.declared.State.{State}
-use Rattle.parity.specs.Parity.{byteAt, parityByte, rightParity}
-use Rattle.record.specs.Life.{unitsOf, missingIn}
+use Rattle.parity.specs.Parity.{parityByte}
+use Rattle.record.specs.Life.{unitsOf}
 use Rattle.record.specs.Sound.{held}
 use Rattle.array.proofs.Granted.{scan-granted}
 use Rattle.array.specs.Scan.{scanReply}
-use Rattle.stripe.proofs.Bytes.{bytes, sum-xor}
-use Rattle.stripe.specs.Invariant.{Idle, IsRow}
+use Rattle.stripe.proofs.Bytes.{sum-xor}
+use Rattle.stripe.specs.Invariant.{IsRow}
 use Rattle.history.specs.Account.{Account}
 use Rattle.history.specs.Promise.{Works, Out}
 use Rattle.history.specs.Row.{blockAt, restOf, parityOfRow}
 use Rattle.history.specs.World.{World, scan, play}
+use Rattle.history.proofs.Facts.{bounds}
 use Rattle.history.proofs.Invariant.{Sure, cellsOf}
 use Rattle.history.proofs.Parities.{right-intro}
 use Rattle.history.proofs.Placed.{layout}
-use Rattle.history.proofs.Places.{out-position, out-card, missing-none, block-back, unit-below, stripe-below}
+use Rattle.history.proofs.Places.{out-position, out-card, block-back, unit-below, stripe-below}
 use Rattle.history.proofs.Positions.{parity-sum}
 use Rattle.history.proofs.ReadOff.{block-byte, block-size, rest-byte, rest-size}
 use Rattle.history.proofs.Rows.{unitByte, rowOf, row-unit, row-parity}
@@ -48,7 +49,7 @@ module _ (w : World) (a : Account) (sure : Sure w a) where
   N = st .cards
 
   limits : Bounds N (st .stripes) (st .block) (st .records)
-  limits = within-limits (geometryOf st) (st .out) (sure .right .limits)
+  limits = bounds (sure .right)
 
   some-card : 0 < N
   some-card = omega (arith, limits .cards-low)
@@ -121,7 +122,7 @@ module _ (w : World) (a : Account) (sure : Sure w a) where
         parity-sum N (st .stripes) (st .block) placing (w .image) s b
         ∙ xorTo-cong N (cellsOf st (w .image) s b) (rowOf st (a .row) s b)
         (λ p l. sure .resting s hs idle b hb .holds p (omega arith)
-        (λ e. omega (arith, missing-none N s (st .out) (omega (arith, limits .cards-high)))))
+        (λ e. omega (arith, missingAt-none N s (st .out) (omega (arith, limits .cards-high)))))
         ∙ row-none b hb
 
   -- ---- by block number

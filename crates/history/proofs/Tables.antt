@@ -1,17 +1,16 @@
 -- Sound tables as facts: of each record, of open records' stripes, and of the table after one record is replaced.
 -- Assumes nothing.
-use Prim.Native.Nat.{ℕ, _≤_, _<_}
-use mathlib.Core.Bool.{Bool, true, false, cond, not, _&&_, _||_}
+use Prim.Native.Nat.{ℕ, _<_}
+use mathlib.Core.Bool.{Bool, true, false, not, _&&_, _||_}
 use mathlib.Core.List.{List}
 use mathlib.Core.Logic.{_⊎_, inl, inr}
 use mathlib.Core.Path.{_≡_, refl, sym, ap, _∙_}
 use native.Mathlib.Omega.{arith}
 use borrow.Author.Tests.{eqb-true, eqb-false, eq-eqb, ne-eqb, ltb-true, lt-ltb, not-true, not-false}
 use lib.Dec.{ltb, eqb}
-use lib.ListN.{length, getD, set, length-set}
-use lib.Seq.{getD-set-same, getD-set-other}
+use lib.ListN.{length, getD}
 use Rattle.terms.specs.Lists.{every}
-use Rattle.terms.specs.Sets.{within, allBelow}
+use Rattle.terms.specs.Sets.{within}
 use Rattle.terms.proofs.Lists.{every-elim, every-intro}
 use Rattle.terms.proofs.Rows.{true≢false, and-left, and-right, and-both, or-cases, truth}
 use Rattle.terms.proofs.Sets.{allBelow-elim, allBelow-intro}

@@ -1,42 +1,39 @@
 -- A turn: one record is replaced, and what else changes is that record's blocks and one stripe. Then every other record and stripe stays sure,
 -- and the whole world is, if the record and the stripe themselves are.
 -- Assumes nothing.
-use Prim.Native.Nat.{ℕ, _+_, _-_, _*_, _≤_, _<_}
-use mathlib.Core.Bool.{Bool, true, false, cond}
+use Prim.Native.Nat.{ℕ, _*_, _≤_, _<_}
+use mathlib.Core.Bool.{true, false}
 use mathlib.Core.List.{List}
 use mathlib.Core.Logic.{_⊎_, inl, inr}
-use mathlib.Core.Path.{_≡_, refl, sym, ap, ap₂, _∙_, subst}
+use mathlib.Core.Path.{_≡_, refl, sym, ap, _∙_, subst}
 use native.Mathlib.Omega.{arith}
 use borrow.Author.Tests.{eqb-true, eqb-false, eq-eqb, ne-eqb}
 use lib.Dec.{eqb}
-use lib.ListN.{length, getD, set, length-set}
+use lib.ListN.{length, set, length-set}
 use lib.Seq.{getD-set-same, getD-set-other}
-use Rattle.terms.specs.Lists.{part}
 use Rattle.terms.proofs.Lists.{part-cong}
-use Rattle.terms.proofs.Rows.{true≢false, truth}
+use Rattle.terms.proofs.Rows.{truth}
 use Rattle.geometry.proofs.Apart.{read-inside}
-use Rattle.geometry.proofs.Bounds.{Bounds, within-limits}
-use Rattle.geometry.specs.Limits.{geometryOf}
+use Rattle.geometry.proofs.Bounds.{Bounds}
 use Rattle.geometry.specs.Placement.{cardAt, blockOf}
-use Rattle.geometry.specs.Store.{readAt, workSize}
-use Rattle.geometry.specs.declared.State.{State}
+use Rattle.geometry.specs.Store.{readAt}
 use Rattle.parity.specs.Parity.{byteAt}
 use Rattle.record.specs.Life.{free, isFree, isOpen, isFinished, isWrite, unitsOf, missingIn}
-use Rattle.record.specs.Sound.{sound, soundRecord, held, holds}
+use Rattle.record.specs.Sound.{soundRecord, held, holds}
 use Rattle.record.specs.declared.Record.{Record}
 use Rattle.array.proofs.Frames.{newByte, gotByte}
-use Rattle.stripe.proofs.Kept.{decayed-idle}
+use Rattle.stripe.proofs.Heart.{heart}
 use Rattle.stripe.specs.Blocks.{changed}
-use Rattle.stripe.specs.Invariant.{Proper}
 use Rattle.history.specs.Account.{Account, Entry}
 use Rattle.history.specs.Promise.{recordAt, blocksRead}
 use Rattle.history.specs.World.{World}
 use Rattle.stripe.proofs.Bytes.{bytes}
+use Rattle.history.proofs.Facts.{bounds, open-fits}
 use Rattle.history.proofs.Gather.{gathered-cong}
 use Rattle.history.proofs.Invariant.{Matches, Working, Resting, Sure, requestOf}
-use Rattle.history.proofs.Near.{Near, faithful-near, two-below}
+use Rattle.history.proofs.Near.{faithful-near, two-below}
 use Rattle.history.proofs.Rows.{rowOf, afterRow, row-cong, after-cong}
-use Rattle.history.proofs.Tables.{Sound, sound-elim, sound-intro, held-elim, held-intro, holds-not, holds-elim, fit, open-not-free}
+use Rattle.history.proofs.Tables.{Sound, sound-elim, sound-intro, held-elim, held-intro, holds-not, holds-elim}
 
 -- record i becomes r′, the work store, the image and the row become these, and the account's entry e′; the state stays. Of stripe s
 pub record Turn (w : World) (a : Account) (i s : ℕ) (r′ : Record) (work′ image′ : List ℕ) (row′ : ℕ → List ℕ) (e′ : Entry) : Type 0 where
@@ -149,7 +146,7 @@ module _ (w : World) (a : Account) (sure : Sure w a) (i s : ℕ) (r′ : Record)
   resting-there : (t : ℕ) → ¬ (s ≡ t) → t < w .state .stripes → held (after .table) t ≡ false → Resting (w .state) image′ row′ t
   resting-there t d h free-now b hb =
       rw (row-there t b d h)
-      (decayed-idle bytes (unitsOf (w .state)) (missingIn (w .state) t) _ _ _
+      (heart bytes (unitsOf (w .state)) .decayed-idle (missingIn (w .state) t) _ _ _
       (λ p l m. turn .cell-others (cardAt (w .state .cards) t p) t b d h hb)
       (sure .resting t h (not-held t d free-now) b hb))
 
@@ -176,7 +173,7 @@ module _ (w : World) (a : Account) (sure : Sure w a) (i s : ℕ) (r′ : Record)
   -- ---- other records
 
   limits : Bounds (w .state .cards) (w .state .stripes) (w .state .block) (w .state .records)
-  limits = within-limits (geometryOf (w .state)) (w .state .out) (sure .right .limits)
+  limits = bounds (sure .right)
 
   position-below : (q : ℕ) → q ≤ unitsOf (w .state) → q < w .state .cards
   position-below q l = omega (arith, limits .cards-low)
@@ -186,7 +183,7 @@ module _ (w : World) (a : Account) (sure : Sure w a) (i s : ℕ) (r′ : Record)
     working-there o =
         let off = turn .alone j h d o in
         let t = recordAt w j .stripe in
-        let ht = fit (w .state) (recordAt w j) (old .each j (omega (arith, sure .right .table-right))) (open-not-free (recordAt w j) o) .stripe-below in
+        let ht = open-fits (sure .right) j h o .stripe-below in
         record {
           proper = sure .working j h o .proper;
           faithful = λ b hb.

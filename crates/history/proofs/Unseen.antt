@@ -1,35 +1,18 @@
 -- No answer and no byte of a working card depends on the bytes that a card holds while it is out: of one call.
 -- Assumes nothing.
-use Prim.Native.Nat.{ℕ, suc, _+_, _-_, _*_, _≤_, _<_}
-use mathlib.Core.Bool.{Bool, true, false, cond, not, _&&_, _||_}
-use mathlib.Core.List.{List, [], _∷_}
-use mathlib.Core.Logic.{_⊎_, inl, inr}
-use mathlib.Core.Path.{_≡_, refl, sym, ap, ap₂, _∙_, subst}
-use native.Mathlib.Decide.{decLt}
+use Prim.Native.Nat.{ℕ, _<_}
+use mathlib.Core.Bool.{Bool, not, _&&_}
+use mathlib.Core.List.{List}
+use mathlib.Core.Path.{_≡_, ap}
 use native.Mathlib.Omega.{arith}
-use borrow.Author.Tests.{eqb-true, eqb-false, eq-eqb}
 use lib.Dec.{eqb, ltb}
-use lib.ListN.{length, getD, set}
-use Rattle.terms.specs.Lists.{part, put}
-use Rattle.terms.specs.Reply.{Reply, accepted, refused, refusedOr13}
-use Rattle.terms.specs.Sets.{lowest}
-use Rattle.terms.proofs.Lists.{part-cong}
-use Rattle.terms.proofs.Rows.{true≢false, truth}
 use Rattle.terms.proofs.Sets.{xorTo-cong, lowest-cong}
-use Rattle.geometry.proofs.Apart.{cell-inside}
-use Rattle.geometry.proofs.Bounds.{Bounds, within-limits}
-use Rattle.geometry.specs.Limits.{none, geometryOf}
-use Rattle.geometry.specs.Placement.{cardAt, positionOf, outIn}
-use Rattle.geometry.specs.Placing.{Placing}
-use Rattle.geometry.specs.Store.{cellAt, imageWrong, imageSize}
+use Rattle.geometry.specs.Placement.{outIn}
+use Rattle.geometry.specs.Store.{imageWrong, imageSize}
 use Rattle.geometry.specs.declared.State.{State}
-use Rattle.graph.specs.Steps.{Step, rd, xr, wr, nil, stepOf}
 use Rattle.parity.specs.Parity.{byteAt, parityByte, wrongByte, wrongStripe, rightParity, disagreement}
-use Rattle.record.specs.Life.{free, unitsOf, missingIn}
-use Rattle.record.specs.Sound.{held}
 use Rattle.record.specs.declared.Record.{Record}
-use Rattle.array.specs.Refusals.{admitRefusal, stepRefusal, scanRefusal}
-use Rattle.array.specs.Scan.{scanReply}
+use Rattle.array.specs.Refusals.{admitRefusal, stepRefusal}
 use Rattle.history.specs.History.{Decayed}
 
 -- two images of a state that agree on the cards that work

@@ -1,6 +1,6 @@
 -- A done step on the image and the work store is, at every byte, the step that a stripe's theory performs.
 -- Assumes nothing.
-use Prim.Native.Nat.{ℕ, suc, _+_, _-_, _*_, _≤_, _<_}
+use Prim.Native.Nat.{ℕ, suc, _≤_, _<_}
 use mathlib.Core.Bool.{Bool, true, false, cond}
 use mathlib.Core.List.{List}
 use mathlib.Core.Path.{_≡_, refl, sym, ap, ap₂, _∙_}
@@ -8,23 +8,21 @@ use native.Mathlib.Omega.{arith}
 use borrow.Author.Tests.{eqb-true, eqb-false}
 use lib.Bits.{bitXor}
 use lib.Dec.{eqb}
-use lib.ListN.{length, getD}
 use Rattle.terms.specs.Sets.{xorTo}
 use Rattle.geometry.proofs.Places.{one-position}
 use Rattle.geometry.specs.Placement.{cardAt}
 use Rattle.geometry.specs.declared.State.{State}
 use Rattle.graph.specs.Steps.{Step, rd, xr, wr, nil}
-use Rattle.graph.specs.Sums.{takesRead, takesNew, sumsToRead}
+use Rattle.graph.specs.Sums.{sumsToRead}
 use Rattle.record.specs.Life.{unitsOf, chosenAt}
 use Rattle.record.specs.declared.Record.{Record}
-use Rattle.array.proofs.Frames.{newByte, gotByte}
 use Rattle.array.proofs.Steps.{Standing, Within, read-got, read-got-other, read-new, inferred-got, inferred-got-other, inferred-new}
 use Rattle.array.proofs.Steps.{computed-new, computed-new-other, computed-got, write-cell, write-cell-other}
 use Rattle.array.specs.Stepping.{sumByte, workAfter, imageAfter}
 use Rattle.stripe.proofs.Bytes.{bytes, sum-xor}
 use Rattle.stripe.specs.Blocks.{Blocks, changed, total, performed}
 use Rattle.stripe.specs.Group.{sumTo}
-use Rattle.history.proofs.Invariant.{requestOf, cellsOf, viewOf}
+use Rattle.history.proofs.Invariant.{requestOf, viewOf}
 use Rattle.history.proofs.Near.{Near}
 
 -- f with v at p: at p it is v, and at another place f

@@ -2,7 +2,7 @@
 -- steps since, and for a finished read what it should give.
 -- Assumes nothing.
 use Prim.Native.Nat.{ℕ, _+_}
-use mathlib.Core.Bool.{Bool, true, false, cond, not, _&&_}
+use mathlib.Core.Bool.{Bool, cond, not, _&&_}
 use mathlib.Core.List.{List, []}
 use lib.ListN.{getD}
 use Rattle.terms.specs.Reply.{onAccept}
@@ -10,7 +10,7 @@ use Rattle.geometry.specs.declared.State.{State}
 use Rattle.record.specs.Life.{free, isFinished}
 use Rattle.stripe.specs.Blocks.{changed}
 use Rattle.history.specs.Row.{writtenRow, unitsOfRow}
-use Rattle.history.specs.World.{World, Event, admit, step, report, collect, scan, decay, Outcome, play}
+use Rattle.history.specs.World.{World, Event, admit, step, report, collect, scan, decay, Engine}
 
 -- a request; the accepted steps since its admission; the bytes that it should give, none before it is finished and none for a write
 pub record Entry : Type 0 where
@@ -56,15 +56,16 @@ stepNoted st a i last =
       entry = changed (a .entry) i (counted st (a .row) e last);
     }
 
--- the account after an event. Whether a step was the last is seen from the table: the record is finished after it
-unfoldable pub noted : World → Account → Event → Account
-noted w a (admit write s mask payload) =
-    let o = play w (admit write s mask payload) in
+-- the account after an event, by what an engine answers and leaves. Whether a step was the last is seen from the table: the record is finished
+-- after it
+unfoldable pub noted : Engine → World → Account → Event → Account
+noted engine w a (admit write s mask payload) =
+    let o = engine w (admit write s mask payload) in
     onAccept (o .reply .number) (admissionNoted a (o .reply .first) (requested write s mask payload)) a
-noted w a (step i k) =
-    let o = play w (step i k) in
+noted engine w a (step i k) =
+    let o = engine w (step i k) in
     onAccept (o .reply .number) (stepNoted (w .state) a i (isFinished (getD (o .world .table) i free))) a
-noted w a (report c) = a
-noted w a (collect i result) = a
-noted w a scan = a
-noted w a (decay image) = a
+noted engine w a (report c) = a
+noted engine w a (collect i result) = a
+noted engine w a scan = a
+noted engine w a (decay image) = a

@@ -26,15 +26,15 @@ ifCall scan x l = x ∷ l
 ifCall (decay image) x l = l
 
 -- the world that a history starts with, its calls and their answers, the latest first
-unfoldable pub startOf : {w : World} {a : Account} → History w a → World
+unfoldable pub startOf : {w : World} {a : Account} → History play w a → World
 startOf (opened g out table work image ok) = openedWorld g out table work image
 startOf (next h e p) = startOf h
 
-unfoldable pub callsOf : {w : World} {a : Account} → History w a → List Event
+unfoldable pub callsOf : {w : World} {a : Account} → History play w a → List Event
 callsOf (opened g out table work image ok) = []
 callsOf (next h e p) = ifCall e e (callsOf h)
 
-unfoldable pub answersOf : {w : World} {a : Account} → History w a → List Answer
+unfoldable pub answersOf : {w : World} {a : Account} → History play w a → List Answer
 answersOf (opened g out table work image ok) = []
 answersOf (next {w} h e p) = ifCall e (answerTo w e) (answersOf h)
 

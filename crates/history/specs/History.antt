@@ -1,7 +1,7 @@
 -- Histories: an accepted opening, then calls, and decay of the card that is out at any moment. Nobody else alters anything.
 -- Assumes nothing.
 use Prim.Native.Nat.{ℕ, _<_}
-use mathlib.Core.Bool.{Bool, false}
+use mathlib.Core.Bool.{false}
 use mathlib.Core.List.{List, []}
 use mathlib.Core.Path.{_≡_}
 use lib.ListN.{length}
@@ -13,7 +13,7 @@ use Rattle.record.specs.declared.Record.{Record}
 use Rattle.array.specs.Opening.{opening}
 use Rattle.history.specs.Account.{Account, requested, noted}
 use Rattle.history.specs.Row.{openedRow}
-use Rattle.history.specs.World.{World, Event, admit, step, report, collect, scan, decay, play}
+use Rattle.history.specs.World.{World, Event, admit, step, report, collect, scan, decay, Engine}
 
 -- an image turns to one of the same length that agrees with it on every card but the one that is out
 pub record Decayed (st : State) (image image′ : List ℕ) : Type 0 where
@@ -39,11 +39,12 @@ unfoldable pub openedAccount : Geometry → ℕ → List Record → List ℕ →
 openedAccount g out table work image =
     record { row = openedRow (opening g out table work image .state) image; entry = λ i. requested false 0 0 [] }
 
--- the histories that end with world w and account a
-pub data History : World → Account → Type 0 where
+-- the histories of an engine that end with a world and an account
+pub data History (engine : Engine) : World → Account → Type 0 where
   opened : (g : Geometry) (out : ℕ) (table : List Record) (work image : List ℕ) → opening g out table work image .reply .number ≡ 0
-      → History (openedWorld g out table work image) (openedAccount g out table work image)
-  next : {w : World} {a : Account} → History w a → (e : Event) → Possible w e → History (play w e .world) (noted w a e)
+      → History engine (openedWorld g out table work image) (openedAccount g out table work image)
+  next : {w : World} {a : Account} → History engine w a → (e : Event) → Possible w e
+      → History engine (engine w e .world) (noted engine w a e)
 
 -- the array is not lost: no second, different card was ever reported
 unfoldable pub Whole : World → Type 0

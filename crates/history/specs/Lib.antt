@@ -5,3 +5,4 @@ pub mod Account
 pub mod History
 pub mod Promise
 pub mod Answers
+pub mod Examples

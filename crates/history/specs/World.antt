@@ -38,8 +38,12 @@ pub record Outcome : Type 0 where
   pub world : World
   pub result : List ℕ
 
--- what comes of an event. A decay answers nothing
-unfoldable pub play : World → Event → Outcome
+-- an engine: what it makes of each event in each world
+abbrev pub Engine : Type 0
+Engine = World → Event → Outcome
+
+-- ours: what comes of an event. A decay answers nothing
+unfoldable pub play : Engine
 play w (admit write s mask payload) =
     let a = admission (w .state) (w .table) (w .work) (w .image) write s mask payload in
     record {

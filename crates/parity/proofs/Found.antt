@@ -18,89 +18,116 @@ use Rattle.block.proofs.Blocks.{length-summed, getD-summed-zeros}
 use Rattle.geometry.specs.Store.{cellAt}
 use Rattle.parity.specs.Parity.{cell, byteAt, parityByte, wrongByte, wrongStripe, rightParity, disagreement, looked}
 
-module _ (N S B : ℕ) (image : List ℕ) where
-  -- a byte of the sum of a stripe's blocks is its parity byte
-  pub sum-byte : (s b : ℕ) → B ≤ 512 → b < B → getD (summed N (cell S B image s) (zeros 512)) b 0 ≡ parityByte N S B image s b
-  unfolding parityByte byteAt cell
-  sum-byte s b h l =
-      getD-summed-zeros N (cell S B image s) 512 b (omega arith)
-      ∙ xorTo-cong N (λ c. getD (part (cellAt S B c s) B image) b 0) (λ c. getD image (cellAt S B c s + b) 0)
-      (λ c m. getD-part (cellAt S B c s) B image b 0 l)
+-- what is looked at: N, S, B, the image, and the stripes that are passed over
+pub record Looking : Type 0 where
+  pub cards : ℕ
+  pub stripes : ℕ
+  pub block : ℕ
+  pub image : List ℕ
+  pub pass : ℕ → Bool
 
-  -- the lowest wrong byte of a stripe, and a stripe that has none
-  pub byte-found : (s b : ℕ) → b < B → (parityByte N S B image s b ≡ 0 → ⊥) → ((k : ℕ) → k < b → parityByte N S B image s k ≡ 0)
-      → wrongByte N S B image s ≡ b
+-- the sum of a stripe's blocks, its parity byte at b, and its lowest wrong byte
+abbrev pub sumIn : Looking → ℕ → List ℕ
+sumIn l s = summed (l .cards) (cell (l .stripes) (l .block) (l .image) s) (zeros 512)
+
+abbrev pub parityIn : Looking → ℕ → ℕ → ℕ
+parityIn l s b = parityByte (l .cards) (l .stripes) (l .block) (l .image) s b
+
+abbrev pub wrongIn : Looking → ℕ → ℕ
+wrongIn l s = wrongByte (l .cards) (l .stripes) (l .block) (l .image) s
+
+-- what is answered
+abbrev pub answerOf : Looking → Reply
+answerOf l = looked (l .cards) (l .stripes) (l .block) (l .image) (l .pass)
+
+-- stripe s is one to report: it is not passed over, and parity disagrees
+pub reports : Looking → ℕ → Bool
+reports l s = not (l .pass s) && ltb (wrongIn l s) (l .block)
+
+module _ (l : Looking) where
+  -- ---- by parity bytes
+
+  -- the lowest wrong byte of a stripe
+  byte-found : (s b : ℕ) → b < l .block → (parityIn l s b ≡ 0 → ⊥) → ((k : ℕ) → k < b → parityIn l s k ≡ 0) → wrongIn l s ≡ b
   unfolding wrongByte
   byte-found s b h e z =
-      lowest-is B (λ k. not (eqb (parityByte N S B image s k) 0)) b h (rw (ne-eqb (parityByte N S B image s b) 0 e))
-      (λ k l. rw (eq-eqb (parityByte N S B image s k) 0 (z k l)))
+      lowest-is (l .block) (λ k. not (eqb (parityIn l s k) 0)) b h (rw (ne-eqb (parityIn l s b) 0 e))
+      (λ k m. rw (eq-eqb (parityIn l s k) 0 (z k m)))
 
-  pub byte-none : (s : ℕ) → ((k : ℕ) → k < B → parityByte N S B image s k ≡ 0) → wrongByte N S B image s ≡ B
+  -- a stripe that has none
+  byte-none : (s : ℕ) → ((k : ℕ) → k < l .block → parityIn l s k ≡ 0) → wrongIn l s ≡ l .block
   unfolding wrongByte
-  byte-none s z =
-      lowest-none B (λ k. not (eqb (parityByte N S B image s k) 0)) (λ k l. rw (eq-eqb (parityByte N S B image s k) 0 (z k l)))
+  byte-none s z = lowest-none (l .block) (λ k. not (eqb (parityIn l s k) 0)) (λ k m. rw (eq-eqb (parityIn l s k) 0 (z k m)))
 
-  module _ (pass : ℕ → Bool) where
-    -- stripe s is one to report: it is not passed over, and parity disagrees
-    pub reports : ℕ → Bool
-    reports s = not (pass s) && ltb (wrongByte N S B image s) B
+  -- ---- by stripes
 
-    pub reports-passed : (s : ℕ) → pass s ≡ true → reports s ≡ false
-    unfolding reports
-    reports-passed s e = rw e
+  pub reports-passed : (s : ℕ) → l .pass s ≡ true → reports l s ≡ false
+  unfolding reports
+  reports-passed s e = rw e
 
-    pub reports-right : (s : ℕ) → ((k : ℕ) → k < B → parityByte N S B image s k ≡ 0) → reports s ≡ false
-    unfolding reports
-    reports-right s z = both (not (pass s)) (rw (byte-none s z) (le-ltb B B (omega arith)))
-      where
-        both : (a : Bool) → ltb (wrongByte N S B image s) B ≡ false → (a && ltb (wrongByte N S B image s) B) ≡ false
-        both true e = e
-        both false e = refl
+  reports-right : (s : ℕ) → wrongIn l s ≡ l .block → reports l s ≡ false
+  unfolding reports
+  reports-right s e = rw e (both (not (l .pass s)) (le-ltb (l .block) (l .block) (omega arith)))
+    where
+      both : (a : Bool) {b : Bool} → b ≡ false → (a && b) ≡ false
+      both true e = e
+      both false e = refl
 
-    pub reports-wrong : (s b : ℕ) → pass s ≡ false → b < B → wrongByte N S B image s ≡ b → reports s ≡ true
-    unfolding reports
-    reports-wrong s b p h e = rw (p, e) (lt-ltb b B h)
+  reports-wrong : (s : ℕ) → l .pass s ≡ false → wrongIn l s < l .block → reports l s ≡ true
+  unfolding reports
+  reports-wrong s p h = rw p (lt-ltb (wrongIn l s) (l .block) h)
 
-    -- ---- by the sum of the stripe's blocks
+  -- ---- by the sum of a stripe's blocks
 
-    module _ (s : ℕ) (sum : List ℕ) (small : B ≤ 512) (is : sum ≡ summed N (cell S B image s) (zeros 512)) where
-      at : (k : ℕ) → k < B → getD sum k 0 ≡ parityByte N S B image s k
-      at k l = ap (λ (t : List ℕ). getD t k 0) is ∙ sum-byte s k small l
+  -- a byte of the sum is the parity byte
+  sum-byte : (s b : ℕ) → l .block ≤ 512 → b < l .block → getD (sumIn l s) b 0 ≡ parityIn l s b
+  unfolding parityByte byteAt cell
+  sum-byte s b h m =
+      getD-summed-zeros (l .cards) (cell (l .stripes) (l .block) (l .image) s) 512 b (omega arith)
+      ∙ xorTo-cong (l .cards) (λ c. getD (part (cellAt (l .stripes) (l .block) c s) (l .block) (l .image)) b 0)
+      (λ c. getD (l .image) (cellAt (l .stripes) (l .block) c s + b) 0)
+      (λ c n. getD-part (cellAt (l .stripes) (l .block) c s) (l .block) (l .image) b 0 m)
 
-      pub sum-length : 512 ≡ length sum
-      sum-length = sym (ap length is ∙ length-summed N (cell S B image s) (zeros 512))
+  module _ (s : ℕ) (sum : List ℕ) (small : l .block ≤ 512) (is : sum ≡ sumIn l s) where
+    pub sum-length : 512 ≡ length sum
+    sum-length = sym (ap length is ∙ length-summed (l .cards) (cell (l .stripes) (l .block) (l .image) s) (zeros 512))
 
-      -- its bytes are zero
-      pub sum-right : ((k : ℕ) → k < B → getD sum k 0 ≡ 0) → reports s ≡ false
-      sum-right z = reports-right s (λ k l. sym (at k l) ∙ z k l)
+    at : (k : ℕ) → k < l .block → getD sum k 0 ≡ parityIn l s k
+    at k m = ap (λ (t : List ℕ). getD t k 0) is ∙ sum-byte s k small m
 
-      pub sum-clear : allZero B sum ≡ true → reports s ≡ false
-      unfolding allZero
-      sum-clear e = sum-right (λ k l. eqb-true (getD sum k 0) 0 (allBelow-elim B (λ i. eqb (getD sum i 0) 0) e k l))
+    -- its bytes are zero
+    pub sum-right : ((k : ℕ) → k < l .block → getD sum k 0 ≡ 0) → reports l s ≡ false
+    sum-right z = reports-right s (byte-none s (λ k m. sym (at k m) ∙ z k m))
 
-      -- byte b is the first that is not
-      module _ (b : ℕ) (h : b < B) (e : getD sum b 0 ≡ 0 → ⊥) (z : (k : ℕ) → k < b → getD sum k 0 ≡ 0) where
-        pub sum-wrong-byte : wrongByte N S B image s ≡ b
-        sum-wrong-byte =
-            byte-found s b h (λ q. e (at b h ∙ q))
-            (λ k l.
-            let m : k < B = omega arith in
-            sym (at k m) ∙ z k l)
+    pub sum-clear : allZero (l .block) sum ≡ true → reports l s ≡ false
+    unfolding allZero
+    sum-clear e = sum-right (λ k m. eqb-true (getD sum k 0) 0 (allBelow-elim (l .block) (λ i. eqb (getD sum i 0) 0) e k m))
 
-        pub sum-wrong : pass s ≡ false → reports s ≡ true
-        sum-wrong p = reports-wrong s b p h sum-wrong-byte
+    -- byte b is the first that is not
+    module _ (b : ℕ) (h : b < l .block) (e : getD sum b 0 ≡ 0 → ⊥) (z : (k : ℕ) → k < b → getD sum k 0 ≡ 0) where
+      pub sum-wrong-byte : wrongIn l s ≡ b
+      sum-wrong-byte =
+          byte-found s b h (λ q. e (at b h ∙ q))
+          (λ k m.
+          let n : k < l .block = omega arith in
+          sym (at k n) ∙ z k m)
 
-    -- ---- by all stripes
+      pub sum-wrong : l .pass s ≡ false → reports l s ≡ true
+      sum-wrong p = reports-wrong s p (rw sum-wrong-byte h)
 
-    -- none is to be reported: parity is right
-    pub looked-right : ((s : ℕ) → s < S → reports s ≡ false) → accepted 0 0 ≡ looked N S B image pass
-    unfolding looked rightParity wrongStripe reports
-    looked-right z = sym (ap (λ (b : Bool). cond b (accepted 0 0) (disagreement N S B image pass)) (eq-eqb (lowest S reports) S (lowest-none S reports z)))
+  -- ---- by all stripes
 
-    -- the lowest that is, with its lowest byte
-    pub looked-wrong : (s b : ℕ) → s < S → reports s ≡ true → ((j : ℕ) → j < s → reports j ≡ false) → wrongByte N S B image s ≡ b
-        → _≡_ {A = Reply} (record { number = 13; first = s; second = b }) (looked N S B image pass)
-    unfolding looked rightParity disagreement wrongStripe reports
-    looked-wrong s b h e z w =
-        let found : lowest S reports ≡ s = lowest-is S reports s h e z in
-        rw (found, ne-eqb s S (omega arith), w)
+  -- none is to be reported: parity is right
+  pub looked-right : ((s : ℕ) → s < l .stripes → reports l s ≡ false) → accepted 0 0 ≡ answerOf l
+  unfolding looked rightParity wrongStripe reports
+  looked-right z =
+      sym (ap (λ (b : Bool). cond b (accepted 0 0) (disagreement (l .cards) (l .stripes) (l .block) (l .image) (l .pass)))
+      (eq-eqb (lowest (l .stripes) (reports l)) (l .stripes) (lowest-none (l .stripes) (reports l) z)))
+
+  -- the lowest that is, with its lowest byte
+  pub looked-wrong : (s b : ℕ) → s < l .stripes → reports l s ≡ true → ((j : ℕ) → j < s → reports l j ≡ false) → wrongIn l s ≡ b
+      → _≡_ {A = Reply} (record { number = 13; first = s; second = b }) (answerOf l)
+  unfolding looked rightParity disagreement wrongStripe reports
+  looked-wrong s b h e z w =
+      let found : lowest (l .stripes) (reports l) ≡ s = lowest-is (l .stripes) (reports l) s h e z in
+      rw (found, ne-eqb s (l .stripes) (omega arith), w)

@@ -1,8 +1,9 @@
 -- Document 01, "Refusal numbers": the scan of an array with nothing open, which is lent no table and has no 3.
 -- Assumes nothing.
 use Prim.Native.Nat.{ℕ}
-use mathlib.Core.Bool.{Bool, false, not}
+use mathlib.Core.Bool.{Bool, false, cond, not}
 use mathlib.Core.List.{List, [], _∷_}
+use mathlib.Core.Path.{_≡_}
 use lib.Dec.{eqb}
 use Rattle.terms.specs.Reply.{Reply, accepted, refused, row, firstRow, onAccept, refusedOr13}
 use Rattle.geometry.specs.Limits.{none, beyondState, isLost}
@@ -17,6 +18,14 @@ unfoldable pub reply : Scan → Reply
 reply Right = accepted 0 0
 reply (Disagrees s b) = record { number = 13; first = s; second = b }
 reply (Refused k) = refused k
+
+-- the answer that has a reply
+unfoldable pub scanOf : Reply → Scan
+scanOf r = cond (eqb (r .number) 0) Right (cond (eqb (r .number) 13) (Disagrees (r .first) (r .second)) (Refused (r .number)))
+
+-- an answer is the one that its reply names: `Refused` never has the number of another case
+abbrev pub Named : Scan → Type 0
+Named a = scanOf (reply a) ≡ a
 
 -- 1, 2 and 13, with some stripes passed over: what an open array's scan and opening ask
 unfoldable pub lookRefusal : State → List ℕ → (ℕ → Bool) → ℕ

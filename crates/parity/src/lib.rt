@@ -5,7 +5,7 @@ ghost use Prim.Native.Nat.{_<_};
 ghost use Rattle.block.specs.Blocks.{summed};
 ghost use Rattle.parity.specs.Fitting.{Fitting};
 ghost use Rattle.parity.specs.Parity.{cell, looked, passes};
-ghost use Rattle.parity.specs.Scan.{reply, lookReply, idleScanReply};
+ghost use Rattle.parity.specs.Scan.{Named, reply, lookReply, idleScanReply};
 use geometry::NONE;
 use geometry::State;
 
@@ -78,7 +78,7 @@ fn is_passed(skip: [u64; 8], stripe: u64) -> bool
 // The lowest stripe that is not passed over, and the lowest byte in it, where parity disagrees: stripes ascending, bytes ascending.
 fn look(image: &[u8], cards: usize, stripes: usize, size: usize, skip: [u64; 8]) -> Scan
     requires { ⌜ Fitting cards stripes size (now image) ⌝ }
-    ensures { λ r. ⌜ reply r ≡ looked cards stripes size (now (image .entry)) (passes skip) ⌝ }
+    ensures { λ r. ⌜ (reply r ≡ looked cards stripes size (now (image .entry)) (passes skip)) × Named r ⌝ }
 {
     let mut stripe: usize = 0;
     let mut byte: usize = 0;
@@ -109,7 +109,7 @@ fn look(image: &[u8], cards: usize, stripes: usize, size: usize, skip: [u64; 8])
 
 // The parity of all stripes but those that are passed over. Refusals 1, 2 and 13.
 pub fn scan_but(state: State, image: &[u8], skip: [u64; 8]) -> Scan
-    ensures { λ r. ⌜ reply r ≡ lookReply state (now (image .entry)) (passes skip) ⌝ }
+    ensures { λ r. ⌜ (reply r ≡ lookReply state (now (image .entry)) (passes skip)) × Named r ⌝ }
 {
     if state.beyond() {
         return Scan::Refused(1);
@@ -125,7 +125,7 @@ pub fn scan_but(state: State, image: &[u8], skip: [u64; 8]) -> Scan
 
 // The scan of an array with nothing open. Refusals 1, 2, 4, 12 and 13.
 pub fn idle_scan(state: State, image: &[u8]) -> Scan
-    ensures { λ r. ⌜ reply r ≡ idleScanReply state (now (image .entry)) ⌝ }
+    ensures { λ r. ⌜ (reply r ≡ idleScanReply state (now (image .entry))) × Named r ⌝ }
 {
     if state.beyond() {
         return Scan::Refused(1);

@@ -202,3 +202,12 @@ subset-intro n a b ha h =
     go : (s t : Bool) → (s ≡ true → t ≡ true) → (s && t) ≡ s
     go true t f = f refl
     go false t f = refl
+
+-- membership as code tests it
+pub bit-odd : (i m : ℕ) → m / 2 ^ i % 2 ≡ 1 → bit i m ≡ true
+unfolding bit
+bit-odd i m e = eq-eqb (m / 2 ^ i % 2) 1 e
+
+pub bit-even : (i m : ℕ) → ¬ (m / 2 ^ i % 2 ≡ 1) → bit i m ≡ false
+unfolding bit
+bit-even i m e = ne-eqb (m / 2 ^ i % 2) 1 e

@@ -31,7 +31,7 @@ use denote.Triple.Statement.{Triple}
 use denote.Triple.Table.{cited}
 use denote.Triple.Walked.{Stays, stay-ref, stay-none, walkOf, goes-ref, goes-none}
 use denote.Exit.{yes}
-use Rattle.geometry.specs.Report.{reporting, reportedReply}
+use Rattle.geometry.specs.Report.{ReportingIs, reporting}
 use Rattle.geometry.specs.declared.State.{State}
 use Rattle.geometry.specs.declared.report.Report.{Report}
 use Rattle.geometry.proofs.State as S
@@ -95,7 +95,7 @@ module _ {M : Type 1} (𝓤 : URA M) (H : Heap 𝓤) (𝓜 : Model 𝓤 H) (𝓖
         -- [the state's cell; what it owns; the open borrow; obs; auth; _0; …; _4; …; card's]
         sets ! (of-opd ! (load ! (from ! (hop ! (look ! 7 refl) (stop !))) (look-raw ! 0 refl))) 11 refl (LL.lawful S.the-type S′.the-laws 𝓤 H A W .typed st _ is .0) $
         calls-told 𝓤 H A by-value.ended asked ((tt, tt, tt, (st, (card, tt)), (LL.vals S.the-type S′.the-laws st, (vint w64 card ∷ [], tt))), tt) W ! (framed 𝓤 H 𝓜 𝓖 𝓡 code.env) known (id⊢ 𝓤 _)
-        B′.lowered (B′.lowers .val-is) (λ r ws. (reportedReply (r .answer) ≡ reporting st card .reply) × (r .state ≡ reporting st card .state)) (λ r ws. id⊢ 𝓤 _)
+        B′.lowered (B′.lowers .val-is) (λ r ws. ReportingIs (reporting st card) (r .answer) (r .state)) (λ r ws. id⊢ 𝓤 _)
         (made (LL.makes S.the-type S′.the-plain 𝓤 H A st _ is) (made (uint-makes 𝓤 H A W w64 card _ (refl, fits)) nil)) (and-then ! (local ! 12 refl) (and-then ! (local ! 10 refl) (no-more !))) (λ r ws e is′. drop ! $
         lands-in ! 13 refl (LL.lawful B.the-type B′.the-laws 𝓤 H A W .typed r _ is′ .0) $
         -- the new state is stored, and the borrow is closed at it

@@ -1,9 +1,9 @@
 -- `parity::scan_but` meets its contract: refusals 1 and 2, and then what the look at all stripes answers.
 -- Assumes nothing.
-use mathlib.Core.Path.{sym, _∙_}
+use mathlib.Core.Path.{refl, sym, _∙_}
 use borrow.Author.Needs.{needs}
 use Rattle.parity.specs.Parity.{passes}
-use Rattle.parity.specs.Scan.{reply}
+use Rattle.parity.specs.Scan.{reply, scanOf}
 use Rattle.parity.proofs.Replies.{image-whole, image-not-whole, fitting, look-beyond, look-length, look-all}
 use Rattle.parity.proofs.scan_but.Statement.{statement}
 use Rattle.parity.proofs.scan_but.Tie as tie
@@ -12,21 +12,25 @@ beyond-requires : tie.Need-beyond-requires
 beyond-requires c κs = search needs
 
 returns : tie.Need-returns
-unfolding reply
-returns c =
-    let args = c .before .before .before .args in
-    look-beyond (args .state) (args .image .now) (passes (args .skip)) (sym (c .before .beyond .ensures) ∙ c .if1 .taken)
+unfolding reply scanOf
+returns c = (
+  let args = c .before .before .before .args in
+      look-beyond (args .state) (args .image .now) (passes (args .skip)) (sym (c .before .beyond .ensures) ∙ c .if1 .taken),
+  refl,
+)
 
 image-size-requires : tie.Need-image-size-requires
 image-size-requires c κs = search needs
 
 returns-2 : tie.Need-returns-2
-unfolding reply
-returns-2 c =
-    let args = c .before .before .before .before .before .args in
-    let inside = sym (c .before .before .before .beyond .ensures) ∙ c .before .before .if1 .left in
-    look-length (args .state) (args .image .now) (passes (args .skip)) inside
-    (image-not-whole (args .state) (args .image .now) inside (λ q. c .if2 .taken (q ∙ sym (c .before .image-size .ensures))))
+unfolding reply scanOf
+returns-2 c = (
+  let args = c .before .before .before .before .before .args in
+      let inside = sym (c .before .before .before .beyond .ensures) ∙ c .before .before .if1 .left in
+      look-length (args .state) (args .image .now) (passes (args .skip)) inside
+      (image-not-whole (args .state) (args .image .now) inside (λ q. c .if2 .taken (q ∙ sym (c .before .image-size .ensures)))),
+  refl,
+)
 
 look-requires : tie.Need-look-requires
 look-requires c κs =
@@ -35,13 +39,15 @@ look-requires c κs =
     (c .if2 .left ∙ c .before .image-size .ensures)
 
 returns-3 : tie.Need-returns-3
-unfolding reply
-returns-3 c =
-    let args = c .before .before .before .before .before .before .args in
-    let inside = sym (c .before .before .before .before .beyond .ensures) ∙ c .before .before .before .if1 .left in
-    c .look .ensures
-    ∙ look-all (args .state) (args .image .now) (passes (args .skip)) inside
-    (image-whole (args .state) (args .image .now) inside (c .before .if2 .left ∙ c .before .before .image-size .ensures))
+unfolding reply scanOf
+returns-3 c = (
+  let args = c .before .before .before .before .before .before .args in
+      let inside = sym (c .before .before .before .before .beyond .ensures) ∙ c .before .before .before .if1 .left in
+      c .look .ensures .0
+      ∙ look-all (args .state) (args .image .now) (passes (args .skip)) inside
+      (image-whole (args .state) (args .image .now) inside (c .before .if2 .left ∙ c .before .before .image-size .ensures)),
+  c .look .ensures .1,
+)
 
 pub scan-but-spec : {M : Type 1} → statement M
 scan-but-spec =

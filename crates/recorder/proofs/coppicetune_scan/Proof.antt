@@ -20,7 +20,7 @@ stateOf c =
 
 -- the answer, whichever it is, replies what the scan replies
 answer : (c : tie.After-idle-scan) (r : Scan) → c .idle-scan .result ≡ r → reply r ≡ idleScanReply (stateOf (c .before .before)) (c .before .before .args .image .now)
-answer c r e = sym (ap reply e) ∙ c .idle-scan .ensures
+answer c r e = sym (ap reply e) ∙ c .idle-scan .ensures .0
 
 -- so its values are small
 small : (c : tie.After-idle-scan) (r : Scan) → c .idle-scan .result ≡ r → Small (reply r)

@@ -1,0 +1,143 @@
+-- What the code of a done step carries and adds up is what the step leaves.
+-- Assumes nothing.
+use Prim.Native.Nat.{ℕ, _+_, _-_, _≤_, _<_}
+use mathlib.Core.Bool.{Bool, true, false, cond}
+use mathlib.Core.List.{List, []}
+use mathlib.Core.Path.{_≡_, refl, sym, ap, ap₂, _∙_}
+use native.Mathlib.Nat.{zero-add}
+use native.Mathlib.Omega.{arith}
+use lib.Bits.{bitXor, xor-zero-l}
+use lib.ListN.{length, getD, length-replicate, getD-replicate}
+use borrow.Author.Tests.{eq-eqb}
+use Rattle.terms.specs.Lists.{tabulate, part, put}
+use Rattle.terms.specs.Sets.{xorTo}
+use Rattle.terms.proofs.Lists.{is-tabulate, length-part, getD-part}
+use Rattle.terms.proofs.Sets.{xorTo-cong}
+use Rattle.block.specs.Blocks.{carried, summed, zeros}
+use Rattle.block.proofs.Blocks.{length-summed, getD-summed}
+use Rattle.block.proofs.Carried.{carried-whole}
+use Rattle.geometry.specs.Asked.{cellIn, writeIn, readIn, readPart, writePart}
+use Rattle.geometry.specs.Placement.{cardAt, cardIn}
+use Rattle.geometry.specs.Store.{cellAt, writeAt, readAt, workSize, workWrong}
+use Rattle.geometry.specs.declared.State.{State}
+use Rattle.geometry.proofs.Asked.{BoundsOf, Inside, cellIn-is, cellIn-inside, writeIn-is, readIn-is, writeIn-inside, readIn-inside, readPart-is, writePart-is}
+use Rattle.geometry.proofs.Apart.{read-inside, write-inside}
+use Rattle.geometry.proofs.Bounds.{Bounds, legal-bounds}
+use Rattle.geometry.proofs.Places.{cardAt-below}
+use Rattle.geometry.proofs.Turns.{cardIn-is}
+use Rattle.graph.specs.Steps.{rd, xr, wr}
+use Rattle.graph.specs.Sums.{takesRead, takesNew, sumsToRead}
+use Rattle.record.specs.Life.{chosenAt, unitsOf}
+use Rattle.record.specs.declared.Record.{Record}
+use Rattle.array.specs.Premises.{Performing}
+use Rattle.array.specs.Stepping.{cellOf, workAfter, imageAfter, sumByte, sumAt}
+use Rattle.array.specs.Sums.{readIf, newIf, blockSum}
+
+module _ (st : State) (i : ℕ) (r : Record) (work image : List ℕ) (k : Performing st i r work image) where
+  pub performing-bounds : BoundsOf st
+  performing-bounds = legal-bounds (st .cards) (st .stripes) (st .block) (st .records) (k .limits)
+
+  in-image : (p : ℕ) → Inside st (cardAt (st .cards) (r .stripe) p) (st .cards) (r .stripe) (st .stripes)
+  in-image p =
+      record {
+        bounds = performing-bounds;
+        first = cardAt-below (st .cards) (omega (arith, performing-bounds)) (r .stripe) p;
+        second = k .stripe-below;
+      }
+
+  in-work : (p : ℕ) → p < st .cards → Inside st i (st .records) p (st .cards)
+  in-work p h = record { bounds = performing-bounds; first = k .record-below; second = h }
+
+  -- where the code finds a position's block in the image
+  pub cell-found : (p : ℕ) → p < st .cards → (card from : ℕ) → card ≡ cardIn (st .cards) (r .stripe) p → from ≡ cellIn st card (r .stripe)
+      → (from ≡ cellOf st r p) × (from + st .block ≤ length image)
+  cell-found p h card from card-is from-is =
+      let at : from ≡ cellIn st (cardAt (st .cards) (r .stripe) p) (r .stripe) =
+      from-is ∙ ap (λ (c : ℕ). cellIn st c (r .stripe)) (card-is ∙ cardIn-is (st .cards) (r .stripe) p h) in
+      (at ∙ cellIn-is st _ _ (in-image p), omega (arith, cellIn-inside st _ _ (in-image p), k .image-right))
+
+  pub performed-read : (p : ℕ) → p < st .cards → (card from at : ℕ) (w : List ℕ) → card ≡ cardIn (st .cards) (r .stripe) p
+      → from ≡ cellIn st card (r .stripe) → at ≡ readIn st i p → w ≡ carried work at image from (st .block)
+      → w ≡ workAfter st i r (rd p) work image
+  unfolding workAfter
+  performed-read p h card from at w card-is from-is at-is moved =
+      let cell = cell-found p h card from card-is from-is in
+      moved
+      ∙ carried-whole work at image from (st .block) (omega (arith, readIn-inside st i p (in-work p h), k .work-right)) (cell .1)
+      ∙ ap₂ (λ (a f : ℕ). put a (part f (st .block) image) work) (at-is ∙ readIn-is st i p (in-work p h)) (cell .0)
+
+  pub performed-write : (p : ℕ) → p < st .cards → (card at from : ℕ) (w : List ℕ) → card ≡ cardIn (st .cards) (r .stripe) p
+      → at ≡ cellIn st card (r .stripe) → from ≡ writeIn st i p → w ≡ carried image at work from (st .block)
+      → w ≡ imageAfter st i r (wr p) work image
+  unfolding imageAfter
+  performed-write p h card at from w card-is at-is from-is moved =
+      let cell = cell-found p h card at card-is at-is in
+      moved
+      ∙ carried-whole image at work from (st .block) (cell .1) (omega (arith, writeIn-inside st i p (in-work p h), k .work-right))
+      ∙ ap₂ (λ (a f : ℕ). put a (part f (st .block) work) image) (cell .0) (from-is ∙ writeIn-is st i p (in-work p h))
+
+  right-length : workWrong st work ≡ false
+  unfolding workWrong
+  right-length = simp (eq-eqb _ _ (k .work-right))
+
+  -- a byte of a block that the sum takes, or 0 where it takes none
+  read-byte : (p b : ℕ) → p < st .cards → b < st .block
+      → getD (readIf st i (r .graph) (r .mask) (chosenAt st r) work p) b 0
+      ≡ cond (takesRead (unitsOf st) (r .graph) (r .mask) (chosenAt st r) p) (getD work (readAt (st .cards) (st .block) i p + b) 0) 0
+  read-byte p b h hb = go (takesRead (unitsOf st) (r .graph) (r .mask) (chosenAt st r) p)
+    where
+      go : (t : Bool) → getD (cond t (readPart st i p work) []) b 0 ≡ cond t (getD work (readAt (st .cards) (st .block) i p + b) 0) 0
+      go true = rw (readPart-is st i p (in-work p h) work right-length) (getD-part (readAt (st .cards) (st .block) i p) (st .block) work b 0 hb)
+      go false = refl
+
+  new-byte : (p b : ℕ) → p < st .cards → b < st .block
+      → getD (newIf st i (r .graph) (r .mask) work p) b 0
+      ≡ cond (takesNew (unitsOf st) (r .graph) (r .mask) p) (getD work (writeAt (st .cards) (st .block) i p + b) 0) 0
+  new-byte p b h hb = go (takesNew (unitsOf st) (r .graph) (r .mask) p)
+    where
+      go : (t : Bool) → getD (cond t (writePart st i p work) []) b 0 ≡ cond t (getD work (writeAt (st .cards) (st .block) i p + b) 0) 0
+      go true = rw (writePart-is st i p (in-work p h) work right-length) (getD-part (writeAt (st .cards) (st .block) i p) (st .block) work b 0 hb)
+      go false = refl
+
+  abbrev sum : List ℕ
+  sum = blockSum st i (r .graph) (r .mask) (chosenAt st r) work
+
+  sum-length : length sum ≡ 512
+  unfolding blockSum
+  sum-length = length-summed _ _ _ ∙ length-summed _ _ _ ∙ length-replicate {A = ℕ} 512 0
+
+  sum-byte : (b : ℕ) → b < st .block → getD sum b 0 ≡ sumByte st i r work b
+  unfolding blockSum sumByte
+  sum-byte b hb =
+      let small : b < 512 = omega (arith, performing-bounds) in
+      let inner = summed (st .cards) (readIf st i (r .graph) (r .mask) (chosenAt st r) work) (zeros 512) in
+      let long : length (zeros 512) ≡ 512 = length-replicate {A = ℕ} 512 0 in
+      getD-summed (st .cards) (newIf st i (r .graph) (r .mask) work) inner b (omega (arith, length-summed (st .cards) (readIf st i (r .graph) (r .mask) (chosenAt st r) work) (zeros 512)))
+      ∙ ap₂ bitXor
+      (getD-summed (st .cards) (readIf st i (r .graph) (r .mask) (chosenAt st r) work) (zeros 512) b (omega arith)
+      ∙ ap (λ (z : ℕ). bitXor z (xorTo (st .cards) (λ p. getD (readIf st i (r .graph) (r .mask) (chosenAt st r) work p) b 0))) (getD-replicate 512 b 0 0 small)
+      ∙ xor-zero-l _
+      ∙ xorTo-cong (st .cards) _ _ (λ p h. read-byte p b h hb))
+      (xorTo-cong (st .cards) _ _ (λ p h. new-byte p b h hb))
+
+  -- the block that it goes to has room
+  pub sum-room : sumAt st i r + st .block ≤ length work
+  unfolding sumAt
+  sum-room = go (sumsToRead (r .graph)) refl
+    where
+      go : (t : Bool) → sumsToRead (r .graph) ≡ t
+          → cond t (readAt (st .cards) (st .block) i (chosenAt st r)) (writeAt (st .cards) (st .block) i (unitsOf st)) + st .block ≤ length work
+      go true e = omega (arith, k .work-right, read-inside (st .cards) (st .block) (st .records) i (chosenAt st r) (k .record-below) (k .x-below e))
+      go false e =
+          omega (arith, k .work-right, write-inside (st .cards) (st .block) (st .records) i (unitsOf st) (k .record-below) (omega (arith, performing-bounds)))
+
+  pub performed-sum : (at : ℕ) (w : List ℕ) → at ≡ sumAt st i r → at + st .block ≤ length work → w ≡ carried work at sum 0 (st .block)
+      → w ≡ workAfter st i r xr work image
+  unfolding workAfter
+  performed-sum at w at-is room moved =
+      let whole : 0 + st .block ≤ length sum = omega (arith, performing-bounds, sum-length) in
+      moved
+      ∙ carried-whole work at sum 0 (st .block) room whole
+      ∙ ap₂ (λ (a : ℕ) (b : List ℕ). put a b work) at-is
+      (is-tabulate (part 0 (st .block) sum) (st .block) (sumByte st i r work) 0 (length-part 0 (st .block) sum whole)
+      (λ b h. getD-part 0 (st .block) sum b 0 h ∙ ap (λ (j : ℕ). getD sum j 0) (zero-add b) ∙ sum-byte b h))

@@ -1,0 +1,124 @@
+-- `array::admits::keep_units` meets its contract: after u turns the units below u are kept.
+-- Assumes nothing.
+use Prim.Native.Nat.{ℕ, _+_, _-_, _*_, _≤_, _<_}
+use mathlib.Core.Bool.{Bool, true, false}
+use mathlib.Core.List.{List}
+use mathlib.Core.Logic.{⊎-elim}
+use mathlib.Core.Path.{_≡_, refl, sym, ap, _∙_}
+use native.Mathlib.Omega.{arith}
+use borrow.Author.Needs.{needs}
+use borrow.Author.Tests.{eq-eqb, ne-eqb}
+use denote.Ref.{now}
+use lib.ListN.{length}
+use Rattle.terms.specs.Sets.{bit}
+use Rattle.terms.proofs.Bits.{bit-odd, bit-even}
+use Rattle.geometry.specs.declared.State.{State}
+use Rattle.array.specs.Admission.{keepUnit, keepUnits}
+use Rattle.array.proofs.Turns.{Turned, turned-none, turned-all}
+use Rattle.array.proofs.Units.{keeping-bounds, keep-room, keep-more, keep-pass}
+use Rattle.array.proofs.admits.keep_units.Statement.{statement}
+use Rattle.array.proofs.admits.keep_units.Tie as tie
+use Rattle.array.proofs.admits.keep_units.Reads as reads
+use Rattle.array.proofs.admits.keep_units.Lts as lts
+use Rattle.block.proofs.carry.Reads as carry-reads
+use Rattle.geometry.proofs.State.write_at.Reads as write-at-reads
+
+abbrev Inv-loop : tie.InvT-loop
+Inv-loop state «record» mask payload work₀ units size from₀ u₀ work from u =
+    Turned units size mask (keepUnit state «record» mask payload) work₀ work from u
+
+abbrev μ-loop : tie.MeasureT-loop
+μ-loop state «record» mask payload work₀ units size from₀ u₀ work from u = units - u
+
+-- src/admits.rt:14:17
+sub-units : tie.Need-sub-units Inv-loop μ-loop
+sub-units c =
+    let s = c .before .before .before in
+    let a = s .args in
+    omega (arith, keeping-bounds (a .state) (a .«record») (a .mask) (now (a .payload)) (now (a .work)) (s .pre))
+
+-- src/admits.rt:18:5
+loop-holds : tie.Need-loop-holds Inv-loop μ-loop
+loop-holds c = turned-none _ _ _ _ _
+
+-- src/admits.rt:19:13
+shr-if1 : tie.Need-shr-if1 Inv-loop μ-loop
+shr-if1 c =
+    let s = c .before .before .before .before .before in
+    let a = s .args in
+    omega (arith, keeping-bounds (a .state) (a .«record») (a .mask) (now (a .payload)) (now (a .work)) (s .pre))
+
+-- src/admits.rt:20:17
+write-at-requires : tie.Need-write-at-requires Inv-loop μ-loop
+write-at-requires c κs = search needs
+
+-- src/admits.rt:21:13
+carry-requires : tie.Need-carry-requires Inv-loop μ-loop
+carry-requires c κs = search needs
+
+-- src/admits.rt:22:13
+add-from : tie.Need-add-from Inv-loop μ-loop
+add-from c =
+    let s = c .before .before .before .before .before .before .before .before .before .before .before in
+    let a = s .args in
+    let k = c .before .before .before .before .before .before .before .loop in
+    omega (
+      arith,
+      s .good,
+      keep-room (a .state) (a .«record») (a .mask) (now (a .payload)) (now (a .work)) (s .pre) _ _ (k .work) (k .from) (k .u) (k .inv)
+          (bit-odd (k .u) (a .mask) (c .before .before .before .before .before .if1 .taken)),
+    )
+
+-- src/admits.rt:24:9
+add-u : tie.Need-add-u Inv-loop μ-loop
+add-u c = search needs
+
+-- src/admits.rt:18:5
+loop-less : tie.Need-loop-less Inv-loop μ-loop
+loop-less c = search needs
+
+-- src/admits.rt:18:5
+loop-again : tie.Need-loop-again Inv-loop μ-loop
+loop-again c =
+    let s = c .before .before .before .before .before .before in
+    let a = s .args in
+    let k = c .before .before .loop in
+    ⊎-elim
+    (λ w.
+    rw (w .6, w .7)
+    (keep-more (a .state) (a .«record») (a .mask) (now (a .payload)) (now (a .work)) (s .pre) (k .work) (k .from) (k .u) (k .inv)
+    (c .before .loop-test .taken) (bit-odd (k .u) (a .mask) (w .0 .taken)) _ _ (w .1 .ensures) (w .3 .ensures)))
+    (λ w.
+    rw (w .1, w .2)
+    (keep-pass (a .state) (a .«record») (a .mask) (now (a .payload)) (now (a .work)) (s .pre) (k .work) (k .from) (k .u) (k .inv)
+    (c .before .loop-test .taken) (bit-even (k .u) (a .mask) (w .0 .left))))
+    (c .if1 .came)
+
+-- src/admits.rt:10:1
+same-length : tie.Need-same-length Inv-loop μ-loop
+same-length c = c .before .loop .inv .as-long
+
+-- src/admits.rt:10:1
+returns : tie.Need-returns Inv-loop μ-loop
+unfolding keepUnits
+returns c =
+    let k = c .before .loop in
+    turned-all _ _ _ _ _ (k .work) (k .from) (k .u) (k .inv) (c .loop-test .left)
+
+pub keep-units-spec : {M : Type 1} → statement M
+keep-units-spec =
+    tie.close
+    (tie.spec
+    Inv-loop
+    μ-loop
+    sub-units
+    loop-holds
+    shr-if1
+    write-at-requires
+    carry-requires
+    add-from
+    add-u
+    loop-less
+    loop-again
+    same-length
+    returns)

@@ -1,0 +1,124 @@
+-- `array::collects::hand_over` meets its contract: after u turns the units below u are handed over.
+-- Assumes nothing.
+use Prim.Native.Nat.{ℕ, _+_, _-_, _*_, _≤_, _<_}
+use mathlib.Core.Bool.{Bool, true, false}
+use mathlib.Core.List.{List}
+use mathlib.Core.Logic.{⊎-elim}
+use mathlib.Core.Path.{_≡_, refl, sym, ap, _∙_}
+use native.Mathlib.Omega.{arith}
+use borrow.Author.Needs.{needs}
+use borrow.Author.Tests.{eq-eqb, ne-eqb}
+use denote.Ref.{now}
+use lib.ListN.{length}
+use Rattle.terms.specs.Sets.{bit}
+use Rattle.terms.proofs.Bits.{bit-odd, bit-even}
+use Rattle.geometry.specs.declared.State.{State}
+use Rattle.array.specs.Collection.{handUnit, handOver}
+use Rattle.array.proofs.Turns.{Turned, turned-none, turned-all}
+use Rattle.array.proofs.Units.{keeping-bounds, keep-room, hand-more, hand-pass}
+use Rattle.array.proofs.collects.hand_over.Statement.{statement}
+use Rattle.array.proofs.collects.hand_over.Tie as tie
+use Rattle.array.proofs.collects.hand_over.Reads as reads
+use Rattle.array.proofs.collects.hand_over.Lts as lts
+use Rattle.block.proofs.carry.Reads as carry-reads
+use Rattle.geometry.proofs.State.read_at.Reads as read-at-reads
+
+abbrev Inv-loop : tie.InvT-loop
+Inv-loop state «record» mask work result₀ units size place₀ u₀ result place u =
+    Turned units size mask (handUnit state «record» mask work) result₀ result place u
+
+abbrev μ-loop : tie.MeasureT-loop
+μ-loop state «record» mask work result₀ units size place₀ u₀ result place u = units - u
+
+-- src/admits.rt:14:17
+sub-units : tie.Need-sub-units Inv-loop μ-loop
+sub-units c =
+    let s = c .before .before .before in
+    let a = s .args in
+    omega (arith, keeping-bounds (a .state) (a .«record») (a .mask) (now (a .result)) (now (a .work)) (s .pre))
+
+-- src/admits.rt:18:5
+loop-holds : tie.Need-loop-holds Inv-loop μ-loop
+loop-holds c = turned-none _ _ _ _ _
+
+-- src/admits.rt:19:13
+shr-if1 : tie.Need-shr-if1 Inv-loop μ-loop
+shr-if1 c =
+    let s = c .before .before .before .before .before in
+    let a = s .args in
+    omega (arith, keeping-bounds (a .state) (a .«record») (a .mask) (now (a .result)) (now (a .work)) (s .pre))
+
+-- src/admits.rt:20:17
+read-at-requires : tie.Need-read-at-requires Inv-loop μ-loop
+read-at-requires c κs = search needs
+
+-- src/admits.rt:21:13
+carry-requires : tie.Need-carry-requires Inv-loop μ-loop
+carry-requires c κs = search needs
+
+-- src/admits.rt:22:13
+add-place : tie.Need-add-place Inv-loop μ-loop
+add-place c =
+    let s = c .before .before .before .before .before .before .before .before .before .before .before in
+    let a = s .args in
+    let k = c .before .before .before .before .before .before .before .loop in
+    omega (
+      arith,
+      s .good,
+      keep-room (a .state) (a .«record») (a .mask) (now (a .result)) (now (a .work)) (s .pre) _ _ (k .result) (k .place) (k .u) (k .inv)
+          (bit-odd (k .u) (a .mask) (c .before .before .before .before .before .if1 .taken)),
+    )
+
+-- src/admits.rt:24:9
+add-u : tie.Need-add-u Inv-loop μ-loop
+add-u c = search needs
+
+-- src/admits.rt:18:5
+loop-less : tie.Need-loop-less Inv-loop μ-loop
+loop-less c = search needs
+
+-- src/admits.rt:18:5
+loop-again : tie.Need-loop-again Inv-loop μ-loop
+loop-again c =
+    let s = c .before .before .before .before .before .before in
+    let a = s .args in
+    let k = c .before .before .loop in
+    ⊎-elim
+    (λ w.
+    rw (w .6, w .7)
+    (hand-more (a .state) (a .«record») (a .mask) (now (a .result)) (now (a .work)) (s .pre) (k .result) (k .place) (k .u) (k .inv)
+    (c .before .loop-test .taken) (bit-odd (k .u) (a .mask) (w .0 .taken)) _ _ (w .1 .ensures) (w .3 .ensures)))
+    (λ w.
+    rw (w .1, w .2)
+    (hand-pass (a .state) (a .«record») (a .mask) (now (a .result)) (now (a .work)) (s .pre) (k .result) (k .place) (k .u) (k .inv)
+    (c .before .loop-test .taken) (bit-even (k .u) (a .mask) (w .0 .left))))
+    (c .if1 .came)
+
+-- src/admits.rt:10:1
+same-length : tie.Need-same-length Inv-loop μ-loop
+same-length c = c .before .loop .inv .as-long
+
+-- src/admits.rt:10:1
+returns : tie.Need-returns Inv-loop μ-loop
+unfolding handOver
+returns c =
+    let k = c .before .loop in
+    turned-all _ _ _ _ _ (k .result) (k .place) (k .u) (k .inv) (c .loop-test .left)
+
+pub hand-over-spec : {M : Type 1} → statement M
+hand-over-spec =
+    tie.close
+    (tie.spec
+    Inv-loop
+    μ-loop
+    sub-units
+    loop-holds
+    shr-if1
+    read-at-requires
+    carry-requires
+    add-place
+    add-u
+    loop-less
+    loop-again
+    same-length
+    returns)

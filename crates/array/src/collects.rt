@@ -1,0 +1,95 @@
+// Collect: what a finished request read is handed over, and its record freed.
+// Assumes nothing.
+ghost use mathlib.Core.Bool.{not, _&&_};
+ghost use mathlib.Core.Path.{_≡_};
+ghost use Prim.Native.Nat.{_≤_};
+ghost use lib.Dec.{ltb};
+ghost use Rattle.array.specs.Collection.{collection, handOver};
+ghost use Rattle.array.specs.Lent.{unitBytes};
+ghost use Rattle.array.specs.Outcomes.{CollectionIs};
+ghost use Rattle.array.specs.Premises.{Keeping};
+ghost use Rattle.array.specs.Refusals.{collectRefusal};
+ghost use Rattle.record.specs.Life.{isWrite, recordsOf};
+use crate::answers::Collected;
+use crate::answers::Collection;
+use crate::refusals::lent_refusal;
+use crate::refusals::unit_bytes;
+use block::carry;
+use geometry::State;
+use record::Record;
+use record::Table;
+use record::free;
+
+// Copies the units that a record read, ascending, to the front of the result buffer.
+fn hand_over(state: State, record: u64, mask: u64, work: &[u8], result: &mut [u8])
+    requires { ⌜ Keeping state «record» mask (now result) (now work) ⌝ }
+    ensures { λ _. ⌜ now (result .exit) ≡ handOver state «record» mask (now (work .entry)) (now (result .entry)) ⌝ }
+{
+    let units = state.cards - 1;
+    let size = state.block as usize;
+    let mut place: usize = 0;
+    let mut u: u64 = 0;
+    while u < units {
+        if (mask >> u) % 2 == 1 {
+            let at = state.read_at(record, u);
+            carry(result, place, work, at, size);
+            place += size;
+        }
+        u += 1;
+    }
+}
+
+// Whether the result buffer is below m·B for a read.
+fn result_short(state: State, r: Record, result: usize) -> bool
+    requires { ⌜ state .block ≤ 512 ⌝ }
+    ensures { λ s. ⌜ s ≡ (not (isWrite r) && ltb result (unitBytes state (r .mask))) ⌝ }
+{
+    if r.write == 1 {
+        return false;
+    }
+    result < unit_bytes(state, r.mask)
+}
+
+// The number by which collect is refused; 0: none. It isn't lent the image.
+fn collect_refusal(state: State, table: Table, work: &[u8], i: u64, result: &[u8]) -> u64
+    ensures { λ r. ⌜ r ≡ collectRefusal state (recordsOf table) (now (work .entry)) i (now (result .entry)) ⌝ }
+{
+    let first = lent_refusal(state, table, work.len(), state.image_size());
+    if first != 0 {
+        return first;
+    }
+    if state.records <= i {
+        return 5;
+    }
+    let r = table.at(i);
+    if r.phase != 2 {
+        return 10;
+    }
+    if result_short(state, r, result.len()) {
+        return 7;
+    }
+    0
+}
+
+// Collects finished record i: the answer, and the freed record, with its place.
+pub fn collect(state: State, table: Table, work: &[u8], i: u64, result: &mut [u8]) -> Collection
+    ensures { λ r. ⌜ CollectionIs (collection state (recordsOf table) (now (work .entry)) i (now (result .entry))) (recordsOf table) i r (now (result .exit)) ⌝ }
+{
+    let number = collect_refusal(state, table, work, i, result);
+    if number != 0 {
+        return Collection {
+            answer: Collected::Refused(number),
+            place: table.len,
+            record: free(),
+        };
+    }
+    let r = table.at(i);
+    if r.write != 1 {
+        hand_over(state, i, r.mask, work, result);
+    }
+    Collection {
+        answer: Collected::Steps(r.count),
+        place: i,
+        record: free(),
+    }
+}

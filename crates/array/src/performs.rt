@@ -1,0 +1,80 @@
+// What a done step does: a read copies its card's block to the work store, the exclusive or adds blocks up there, a write copies a
+// block to its card.
+// Assumes nothing.
+ghost use mathlib.Core.Path.{_≡_};
+ghost use mathlib.Core.Bool.{true};
+ghost use Prim.Native.Nat.{_<_};
+ghost use Rattle.array.specs.Premises.{Performing};
+ghost use Rattle.array.specs.Stepping.{workAfter, imageAfter, sumAt};
+ghost use Rattle.graph.specs.Steps.{rd, xr, wr, stepOf};
+ghost use Rattle.geometry.specs.Store.{legalState};
+ghost use Rattle.graph.specs.Sums.{sumsToRead};
+ghost use Rattle.record.specs.Life.{chosenAt, unitsOf};
+use crate::sums::sum_blocks;
+use block::carry;
+use geometry::State;
+use geometry::card_at;
+use geometry::missing_at;
+use graph::Action;
+use graph::step_of;
+use graph::sums_to_read;
+use record::Record;
+
+// Copies the card's block of a position to the record's read block.
+fn read(state: State, i: u64, r: Record, p: u64, work: &mut [u8], image: &[u8])
+    requires { ⌜ (Performing state i r (now work) (now image)) × (p < state .cards) ⌝ }
+    ensures { λ _. ⌜ now (work .exit) ≡ workAfter state i r (rd p) (now (work .entry)) (now (image .entry)) ⌝ }
+{
+    let size = state.block as usize;
+    let card = card_at(state.cards, r.stripe, p);
+    let from = state.cell_at(card, r.stripe);
+    let at = state.read_at(i, p);
+    carry(work, at, image, from, size);
+}
+
+// Copies the record's block to write of a position to its card.
+fn write(state: State, i: u64, r: Record, p: u64, work: &[u8], image: &mut [u8])
+    requires { ⌜ (Performing state i r (now work) (now image)) × (p < state .cards) ⌝ }
+    ensures { λ _. ⌜ now (image .exit) ≡ imageAfter state i r (wr p) (now (work .entry)) (now (image .entry)) ⌝ }
+{
+    let size = state.block as usize;
+    let card = card_at(state.cards, r.stripe, p);
+    let at = state.cell_at(card, r.stripe);
+    let from = state.write_at(i, p);
+    carry(image, at, work, from, size);
+}
+
+// Where the exclusive or goes: to the read block of X in graph 2, else to the last block to write.
+fn sum_at(state: State, i: u64, r: Record, x: u64) -> usize
+    requires { ⌜ (legalState state ≡ true) × (i < state .records) × (x ≡ chosenAt state r) × (sumsToRead (r .graph) ≡ true → x < state .cards) ⌝ }
+    ensures { λ at. ⌜ at ≡ sumAt state i r ⌝ }
+{
+    if sums_to_read(r.graph) {
+        return state.read_at(i, x);
+    }
+    state.write_at(i, state.cards - 1)
+}
+
+// Adds up the blocks that the record's graph takes.
+fn sum(state: State, i: u64, r: Record, work: &mut [u8], image: &[u8])
+    requires { ⌜ Performing state i r (now work) (now image) ⌝ }
+    ensures { λ _. ⌜ now (work .exit) ≡ workAfter state i r xr (now (work .entry)) (now (image .entry)) ⌝ }
+{
+    let x = missing_at(state.cards, r.stripe, r.chosen);
+    let at = sum_at(state, i, r, x);
+    sum_blocks(state, i, r.graph, r.mask, x, at, work);
+}
+
+// Does step k of a record: the work store and the image after it.
+pub(crate) fn perform(state: State, i: u64, r: Record, k: u64, work: &mut [u8], image: &mut [u8])
+    requires { ⌜ Performing state i r (now work) (now image) ⌝ }
+    ensures works { λ _. ⌜ now (work .exit) ≡ workAfter state i r (stepOf (unitsOf state) k) (now (work .entry)) (now (image .entry)) ⌝ }
+    ensures images { λ _. ⌜ now (image .exit) ≡ imageAfter state i r (stepOf (unitsOf state) k) (now (work .entry)) (now (image .entry)) ⌝ }
+{
+    match step_of(state.cards - 1, k) {
+        Action::Read(p) => read(state, i, r, p, work, image),
+        Action::Sum => sum(state, i, r, work, image),
+        Action::Write(p) => write(state, i, r, p, work, image),
+        Action::Nothing => {}
+    }
+}

@@ -1,0 +1,2 @@
+-- What the walks of the calls share.
+pub mod States

@@ -1,0 +1,212 @@
+-- Every event of two worlds that differ at most in the bytes of the card that is out: the same answer, and such worlds again.
+-- Assumes nothing.
+use Prim.Native.Nat.{ℕ, _<_}
+use mathlib.Core.Bool.{Bool, true, false, cond}
+use mathlib.Core.List.{List, []}
+use mathlib.Core.Logic.{_⊎_, inl, inr}
+use mathlib.Core.Path.{_≡_, refl, sym, ap, _∙_}
+use native.Mathlib.Omega.{arith}
+use borrow.Author.Tests.{eqb-true}
+use lib.Dec.{eqb}
+use Rattle.terms.specs.Reply.{refused}
+use Rattle.terms.proofs.Rows.{truth}
+use Rattle.geometry.proofs.Bounds.{Bounds, within-limits}
+use Rattle.geometry.specs.Limits.{geometryOf, none, beyondState}
+use Rattle.geometry.specs.Placement.{outIn}
+use Rattle.geometry.specs.Report.{reporting, reportRefusal, marked, withOut, withLost}
+use Rattle.geometry.specs.declared.State.{State}
+use Rattle.graph.specs.Steps.{stepOf}
+use Rattle.record.specs.Life.{unitsOf, chosenAt, missingIn}
+use Rattle.record.specs.declared.Record.{Record}
+use Rattle.array.proofs.Passed.{Ready, step-passed, passed}
+use Rattle.array.proofs.Steps.{Within}
+use Rattle.array.specs.Admission.{Admission, admission}
+use Rattle.array.specs.Refusals.{stepRefusal, stepReady}
+use Rattle.array.specs.Stepping.{Stepping, meetsOut, accepting, stepping}
+use Rattle.stripe.proofs.Readied.{readied}
+use Rattle.history.specs.Answers.{answerTo, Alike}
+use Rattle.history.specs.History.{Decayed}
+use Rattle.history.specs.Promise.{recordAt}
+use Rattle.history.specs.World.{World, Event, admit, step, report, collect, scan, decay, play}
+use Rattle.history.proofs.Calls.{work-same, image-same}
+use Rattle.history.proofs.Facts.{bounds, open-fits}
+use Rattle.history.proofs.Placed.{layout}
+use Rattle.history.proofs.Scans.{scan-same}
+use Rattle.history.proofs.Step.{kind-within}
+use Rattle.history.proofs.Tables.{Fit}
+use Rattle.history.proofs.Unseen.{admit-same, step-same}
+
+-- ---- images that agree on the cards that work
+
+pub decayed-refl : (st : State) (image : List ℕ) → Decayed st image image
+decayed-refl st image = record { same-length = refl; same-bytes = λ c s b hc hs hb d. refl }
+
+pub decayed-trans : (st : State) (a b c : List ℕ) → Decayed st a b → Decayed st b c → Decayed st a c
+decayed-trans st a b c p q =
+    record {
+      same-length = q .same-length ∙ p .same-length;
+      same-bytes = λ d s e hd hs he w. q .same-bytes d s e hd hs he w ∙ p .same-bytes d s e hd hs he w;
+    }
+
+pub decayed-sym : (st : State) (a b : List ℕ) → Decayed st a b → Decayed st b a
+decayed-sym st a b p =
+    record { same-length = sym (p .same-length); same-bytes = λ d s e hd hs he w. sym (p .same-bytes d s e hd hs he w) }
+
+module _ (w : World) (image′ : List ℕ) (same : Decayed (w .state) (w .image) image′) where
+  abbrev v : World
+  v = record { state = w .state; table = w .table; work = w .work; image = image′ }
+
+  -- the same answer, and worlds that are alike
+  abbrev Both : Event → Type 0
+  Both e = (answerTo v e ≡ answerTo w e) × Alike (play w e .world) (play v e .world)
+
+  admit-both : (write : Bool) (s mask : ℕ) (payload : List ℕ) → Both (admit write s mask payload)
+  unfolding play
+  admit-both write s mask payload = (
+    ap (λ (a : Admission). record { reply = a .reply; result = [] }) equal,
+    record {
+      same-state = refl;
+      same-table = ap (λ (a : Admission). a .table) equal;
+      same-work = ap (λ (a : Admission). a .work) equal;
+      same-image = same;
+    },
+  )
+    where
+      equal : admission (w .state) (w .table) (w .work) image′ write s mask payload ≡ admission (w .state) (w .table) (w .work) (w .image) write s mask payload
+      equal = unfold admission in rw (admit-same (w .state) (w .image) image′ same (w .table) (w .work) write s mask payload)
+
+  collect-both : (i : ℕ) (result : List ℕ) → Both (collect i result)
+  unfolding play
+  collect-both i result = (refl, record { same-state = refl; same-table = refl; same-work = refl; same-image = same })
+
+  scan-both : Both scan
+  unfolding play
+  scan-both = (
+    rw (scan-same (w .state) (w .image) image′ same (w .table)),
+    record { same-state = refl; same-table = refl; same-work = refl; same-image = same },
+  )
+
+  decay-both : (image : List ℕ) → Both (decay image)
+  unfolding play
+  decay-both image = (refl, record { same-state = refl; same-table = refl; same-work = refl; same-image = decayed-refl (w .state) image })
+
+  -- with none out, images that agree on the cards that work agree on all, so also on those that work when one goes out
+  out-same : (c : ℕ) → reportRefusal (w .state) c ≡ 0 → w .state .out ≡ none → Decayed (withOut (w .state) c) (w .image) image′
+  unfolding reportRefusal outIn
+  out-same c e o =
+      let limits = within-limits (geometryOf (w .state)) (w .state .out) (passed (beyondState (w .state)) 0 _ e .0) in
+      record {
+        same-length = same .same-length;
+        same-bytes = λ d s b hd hs hb works. same .same-bytes d s b hd hs hb (λ f. omega (arith, limits .cards-high));
+      }
+
+  lost-same : Decayed (withLost (w .state)) (w .image) image′
+  unfolding outIn
+  lost-same = record { same-length = same .same-length; same-bytes = same .same-bytes }
+
+  -- a report alters the state, of both alike
+  report-both : (c : ℕ) → Both (report c)
+  unfolding play reporting marked
+  report-both c = (
+    refl,
+    record {
+      same-state = refl;
+      same-table = refl;
+      same-work = refl;
+      same-image = go (eqb (reportRefusal (w .state) c) 0) refl (eqb (w .state .out) none) refl;
+    },
+  )
+    where
+      go : (t : Bool) → eqb (reportRefusal (w .state) c) 0 ≡ t → (o : Bool) → eqb (w .state .out) none ≡ o
+          → Decayed (cond t (cond o (withOut (w .state) c) (withLost (w .state))) (w .state)) (w .image) image′
+      go true e true o = out-same c (eqb-true (reportRefusal (w .state) c) 0 e) (eqb-true (w .state .out) none o)
+      go true e false o = lost-same
+      go false e o f = same
+
+  -- ---- a step
+
+  module _ (i k : ℕ) where
+    abbrev r : Record
+    r = recordAt w i
+
+    -- two outcomes of a step that answer the same and leave alike
+    record Same (a b : Stepping) : Type 0 where
+      same-reply : b .reply ≡ a .reply
+      same-table : b .table ≡ a .table
+      same-work : b .work ≡ a .work
+      same-image : Decayed (w .state) (a .image) (b .image)
+
+    accepted-same : Ready (w .state) (w .table) (w .work) (w .image) i k
+        → Same (accepting (w .state) (w .table) (w .work) (w .image) i r k) (accepting (w .state) (w .table) (w .work) image′ i r k)
+    unfolding accepting
+    accepted-same ok = go (truth meets)
+      where
+        n : ℕ
+        n = unitsOf (w .state)
+
+        meets : Bool
+        meets = meetsOut (missingIn (w .state) (r .stripe)) (stepOf n k)
+
+        limits : Bounds (w .state .cards) (w .state .stripes) (w .state .block) (w .state .records)
+        limits = bounds (ok .right)
+
+        some-card : 0 < w .state .cards
+        some-card = omega (arith, limits .cards-low)
+
+        fits : Fit (w .state) r
+        fits = open-fits (ok .right) i (ok .record-below) (ok .is-open)
+
+        within : Within (w .state .cards) (stepOf n k)
+        within =
+            kind-within n (w .state .cards) k (stepOf n k) (omega (arith, some-card))
+            (readied n (r .graph) (r .mask) (chosenAt (w .state) r) (r .done) k (unfold stepReady in ok .is-ready) .as-step)
+
+        go : (meets ≡ true) ⊎ (meets ≡ false)
+            → Same (accepting (w .state) (w .table) (w .work) (w .image) i r k) (accepting (w .state) (w .table) (w .work) image′ i r k)
+        go (inl e) = rw e (record { same-reply = refl; same-table = refl; same-work = refl; same-image = same })
+        go (inr e) =
+            rw e
+            (record {
+              same-reply = refl;
+              same-table = refl;
+              same-work =
+                  work-same (w .state) (w .work) (w .image) image′ same r i (layout (w .state .cards) some-card) (ok .right .image-right) (fits .stripe-below)
+                  (stepOf n k) within e;
+              same-image =
+                  image-same (w .state) (w .work) (w .image) image′ same r i (layout (w .state .cards) some-card) (ok .right .image-right) (fits .stripe-below)
+                  (stepOf n k) within (ok .record-below) (ok .right .work-right);
+            })
+
+    stepping-same : Same (stepping (w .state) (w .table) (w .work) (w .image) i k) (stepping (w .state) (w .table) (w .work) image′ i k)
+    unfolding stepping
+    stepping-same = rw (step-same (w .state) (w .image) image′ same (w .table) (w .work) i k) (go (truth (eqb number 0)))
+      where
+        number : ℕ
+        number = stepRefusal (w .state) (w .table) (w .work) (w .image) i k
+
+        go : (eqb number 0 ≡ true) ⊎ (eqb number 0 ≡ false)
+            → Same
+            (cond (eqb number 0) (accepting (w .state) (w .table) (w .work) (w .image) i r k) (record { reply = refused number; table = w .table; work = w .work; image = w .image }))
+            (cond (eqb number 0) (accepting (w .state) (w .table) (w .work) image′ i r k) (record { reply = refused number; table = w .table; work = w .work; image = image′ }))
+        go (inl e) = rw e (accepted-same (step-passed (w .state) (w .table) (w .work) (w .image) i k (eqb-true number 0 e)))
+        go (inr e) = rw e (record { same-reply = refl; same-table = refl; same-work = refl; same-image = same })
+
+    step-both : Both (step i k)
+    unfolding play
+    step-both = (
+      rw (stepping-same .same-reply),
+      record {
+        same-state = refl;
+        same-table = stepping-same .same-table;
+        same-work = stepping-same .same-work;
+        same-image = stepping-same .same-image;
+      },
+    )
+
+  pub both : (e : Event) → Both e
+  both (admit write s mask payload) = admit-both write s mask payload
+  both (step i k) = step-both i k
+  both (report c) = report-both c
+  both (collect i result) = collect-both i result
+  both scan = scan-both
+  both (decay image) = decay-both image

@@ -1,0 +1,70 @@
+-- Everything that the calls compute with, under one name: a line `unfolding computed` opens it all, for examples that are shown by computation.
+-- Assumes nothing.
+use lib.Count.{ones, onesIn}
+use Rattle.terms.specs.Lists.{tabulate, part, put, every, changes}
+use Rattle.terms.specs.Reply.{firstRow}
+use Rattle.terms.specs.Sets.{within, bit, allBelow, lowest, xorTo}
+use Rattle.geometry.specs.Answers.{placeRefusal, placeReply, blockAtRefusal, blockAtReply}
+use Rattle.geometry.specs.Limits.{legal, legalOut, beyond}
+use Rattle.geometry.specs.Placement.{parityCard, cardAt, positionOf, outIn, missingAt}
+use Rattle.geometry.specs.Report.{reportRefusal, marked, reporting}
+use Rattle.geometry.specs.Store.{imageSize, cellAt, workSize, writeAt, readAt, imageWrong, workWrong}
+use Rattle.graph.specs.Choice.{unitOut, unitOutIn, allUnits, chooseRead, chooseWrite, choose}
+use Rattle.graph.specs.Order.{anyRead, readOf, isSum, before, cleared, ready, complete, closed}
+use Rattle.graph.specs.Steps.{stepOf, byGraph, masked, unmasked, reads, sums, writes, member}
+use Rattle.graph.specs.Sums.{takesNew, sumsToRead}
+use Rattle.parity.specs.Parity.{byteAt, parityByte, wrongByte, wrongStripe, rightParity, disagreement}
+use Rattle.record.specs.Life.{admitted, stepped, afresh}
+use Rattle.record.specs.Sound.{allZero, legalMask, legalRecord, legalChosen, rightGraph, rightSteps, lacksNone, rightCount, soundRecord}
+use Rattle.record.specs.Sound.{clash, apart, sound, holds, held, lowestFree}
+use Rattle.array.specs.Admission.{keepUnits, admission}
+use Rattle.array.specs.Collection.{handOver, collecting, collection}
+use Rattle.array.specs.Lent.{tableWrong, unitBytes, rank}
+use Rattle.array.specs.Opening.{opening}
+use Rattle.array.specs.Refusals.{opened as openedState, openRefusal, payloadWrong, admitRefusal, stepReady, stepRefusal, resultShort, collectRefusal, scanRefusal}
+use Rattle.array.specs.Scan.{scanReply}
+use Rattle.array.specs.Stepping.{meetsOut, sumByte, sumAt, workAfter, imageAfter, accepting, stepping}
+use Rattle.history.specs.Examples.{opened, after}
+use Rattle.history.specs.History.{openedWorld}
+use Rattle.history.specs.Row.{blockAt, restOf}
+use Rattle.history.specs.World.{play}
+
+unfoldable words : Unit {0}
+unfolding ones onesIn tabulate part put every changes firstRow within bit allBelow lowest xorTo
+words = tt
+
+unfoldable places : Unit {0}
+unfolding placeRefusal placeReply blockAtRefusal blockAtReply legal legalOut beyond parityCard cardAt positionOf outIn missingAt
+places = tt
+
+unfoldable stores : Unit {0}
+unfolding reportRefusal marked reporting imageSize cellAt workSize writeAt readAt imageWrong workWrong
+stores = tt
+
+unfoldable graphs : Unit {0}
+unfolding unitOut unitOutIn allUnits chooseRead chooseWrite choose stepOf byGraph masked unmasked reads sums writes member takesNew sumsToRead
+graphs = tt
+
+unfoldable orders : Unit {0}
+unfolding anyRead readOf isSum before cleared ready complete closed byteAt parityByte wrongByte wrongStripe rightParity disagreement
+orders = tt
+
+unfoldable records : Unit {0}
+unfolding admitted stepped afresh allZero legalMask legalRecord legalChosen rightGraph rightSteps lacksNone rightCount soundRecord
+records = tt
+
+unfoldable tables : Unit {0}
+unfolding clash apart sound holds held lowestFree tableWrong unitBytes rank
+tables = tt
+
+unfoldable refusals : Unit {0}
+unfolding openRefusal payloadWrong admitRefusal stepReady stepRefusal resultShort collectRefusal scanRefusal
+refusals = tt
+
+unfoldable calls : Unit {0}
+unfolding opening openedState keepUnits admission handOver collecting collection scanReply meetsOut sumByte sumAt workAfter imageAfter accepting stepping
+calls = tt
+
+unfoldable pub computed : Unit {0}
+unfolding words places stores graphs orders records tables refusals calls opened after openedWorld blockAt restOf play
+computed = tt

@@ -1,0 +1,26 @@
+-- DEMAND 3, as a theorem: by the definitions that the contracts cite, the promise of specs/Promise.antt is kept at the end of every history in
+-- which the array is never lost. What "history", "account" and "promise" mean stands in specs/, and is all that one has to read.
+-- Assumes nothing.
+use mathlib.Core.Path.{_≡_, sym, subst, fun-ext}
+use Rattle.history.specs.Account.{Account}
+use Rattle.history.specs.Answers.{startOf, callsOf, answersOf, Alike}
+use Rattle.history.specs.History.{History}
+use Rattle.history.specs.Promise.{Keeps}
+use Rattle.history.specs.World.{World, Event, Engine, play}
+use Rattle.history.proofs.Events.{history-sure}
+use Rattle.history.proofs.Independent.{independent}
+use Rattle.history.proofs.Promised.{promise}
+
+pub demand-3 : Keeps play
+unfolding Keeps
+demand-3 w a h whole = promise w a (history-sure h whole)
+
+-- and so does every engine that meets the contracts: one whose outcomes are those of the definitions
+pub meets-contracts : (engine : Engine) → ((w : World) (e : Event) → engine w e ≡ play w e) → Keeps engine
+meets-contracts engine same = subst Keeps (sym (fun-ext (λ w. fun-ext (λ e. same w e)))) demand-3
+
+-- No answer and no byte of a working card depends on the bytes that a card holds while it is out: two histories that start with worlds that
+-- differ at most there, and make the same calls, have the same answers and end with such worlds, whatever decayed in either and when
+pub out-card-unseen : {w v : World} {a b : Account} (h : History play w a) (k : History play v b) → Alike (startOf h) (startOf k)
+    → callsOf k ≡ callsOf h → (answersOf k ≡ answersOf h) × Alike w v
+out-card-unseen h k start calls = independent h k start calls

@@ -1,0 +1,121 @@
+-- No answer and no byte of a working card depends on the bytes that a card holds while it is out: of whole histories.
+-- Assumes nothing.
+use Prim.Native.Nat.{ℕ}
+use mathlib.Core.List.{List, [], _∷_}
+use mathlib.Core.Path.{_≡_, refl, sym, ap, ap₂, _∙_, subst}
+use Rattle.geometry.specs.declared.Geometry.{Geometry}
+use Rattle.geometry.specs.declared.State.{State}
+use Rattle.record.specs.declared.Record.{Record}
+use Rattle.array.specs.Opening.{opening}
+use Rattle.array.specs.Refusals.{opened as openedState}
+use Rattle.history.specs.Account.{Account}
+use Rattle.history.specs.Answers.{Answer, answerTo, ifCall, startOf, callsOf, answersOf, ran, answered, Alike}
+use Rattle.history.specs.History.{Decayed, Possible, History, opened, next}
+use Rattle.history.specs.World.{World, Event, admit, step, report, collect, scan, decay, play}
+use Rattle.history.proofs.Alikes.{decayed-refl, decayed-trans, decayed-sym, both}
+use Rattle.history.proofs.Scans.{open-same}
+
+-- ---- alike is an equivalence
+
+pub alike-refl : (w : World) → Alike w w
+alike-refl w = record { same-state = refl; same-table = refl; same-work = refl; same-image = decayed-refl (w .state) (w .image) }
+
+pub alike-trans : {u v w : World} → Alike u v → Alike v w → Alike u w
+alike-trans {u} {v} {w} p q =
+    record {
+      same-state = q .same-state ∙ p .same-state;
+      same-table = q .same-table ∙ p .same-table;
+      same-work = q .same-work ∙ p .same-work;
+      same-image =
+          decayed-trans (u .state) (u .image) (v .image) (w .image) (p .same-image)
+          (subst (λ (st : State). Decayed st (v .image) (w .image)) (p .same-state) (q .same-image));
+    }
+
+pub alike-sym : {u v : World} → Alike u v → Alike v u
+alike-sym {u} {v} p =
+    record {
+      same-state = sym (p .same-state);
+      same-table = sym (p .same-table);
+      same-work = sym (p .same-work);
+      same-image =
+          subst (λ (st : State). Decayed st (v .image) (u .image)) (sym (p .same-state)) (decayed-sym (u .state) (u .image) (v .image) (p .same-image));
+    }
+
+-- ---- one event
+
+-- what comes of an event in two worlds that are alike
+pub record Unseen (w v : World) (e : Event) : Type 0 where
+  pub same-answer : answerTo v e ≡ answerTo w e
+  pub alike-after : Alike (play w e .world) (play v e .world)
+
+pub unseen : {w v : World} → Alike w v → (e : Event) → Unseen w v e
+unseen {w} {v} p e = subst (λ (u : World). Unseen w u e) (sym fields) (record { same-answer = b .0; alike-after = b .1 })
+  where
+    fields : v ≡ record { state = w .state; table = w .table; work = w .work; image = v .image }
+    fields = λ i. record { state = p .same-state i; table = p .same-table i; work = p .same-work i; image = v .image }
+
+    b : (answerTo (record { state = w .state; table = w .table; work = w .work; image = v .image }) e ≡ answerTo w e)
+        × Alike (play w e .world) (play (record { state = w .state; table = w .table; work = w .work; image = v .image }) e .world)
+    b = both w (v .image) (p .same-image) e
+
+-- ---- calls one after the other
+
+ran-alike : {w v : World} → Alike w v → (es : List Event) → Alike (ran w es) (ran v es)
+unfolding ran
+ran-alike p [] = p
+ran-alike p (e ∷ es) = unseen (ran-alike p es) e .alike-after
+
+answered-same : {w v : World} → Alike w v → (es : List Event) → answered v es ≡ answered w es
+unfolding answered ran
+answered-same p [] = refl
+answered-same p (e ∷ es) = ap₂ {C = List Answer} (λ a rest. a ∷ rest) (unseen (ran-alike p es) e .same-answer) (answered-same p es)
+
+-- ---- a history, and its calls alone
+
+-- one more event: a call is one more of the calls, and a decay is none
+module _ {w : World} (start : World) (es : List Event) (p : Alike (ran start es) w) where
+  more-ran : (e : Event) → Possible w e → Alike (ran start (ifCall e e es)) (play w e .world)
+  unfolding ifCall ran
+  more-ran (admit write s mask payload) q = unseen p (admit write s mask payload) .alike-after
+  more-ran (step i k) q = unseen p (step i k) .alike-after
+  more-ran (report c) q = unseen p (report c) .alike-after
+  more-ran (collect i result) q = unseen p (collect i result) .alike-after
+  more-ran scan q = unseen p scan .alike-after
+  more-ran (decay image) q =
+      alike-trans p (unfold play Possible in record { same-state = refl; same-table = refl; same-work = refl; same-image = q })
+
+  more-answers : (e : Event) (all : List Answer) → all ≡ answered start es → ifCall e (answerTo w e) all ≡ answered start (ifCall e e es)
+  unfolding ifCall answered
+  more-answers (admit write s mask payload) all o = rw (o, unseen p (admit write s mask payload) .same-answer)
+  more-answers (step i k) all o = rw (o, unseen p (step i k) .same-answer)
+  more-answers (report c) all o = rw (o, unseen p (report c) .same-answer)
+  more-answers (collect i result) all o = rw (o, unseen p (collect i result) .same-answer)
+  more-answers scan all o = rw (o, unseen p scan .same-answer)
+  more-answers (decay image) all o = o
+
+-- the world at the end is what the calls alone would have left, but for the bytes of the card that is out
+pub history-ran : {w : World} {a : Account} (h : History play w a) → Alike (ran (startOf h) (callsOf h)) w
+unfolding startOf callsOf
+history-ran (opened g out table work image ok) = unfold ran in alike-refl _
+history-ran (next h e p) = more-ran (startOf h) (callsOf h) (history-ran h) e p
+
+-- and every call was answered as it would have been
+pub history-answers : {w : World} {a : Account} (h : History play w a) → answersOf h ≡ answered (startOf h) (callsOf h)
+unfolding startOf callsOf answersOf
+history-answers (opened g out table work image ok) = unfold answered in refl
+history-answers (next h e p) = more-answers (startOf h) (callsOf h) (history-ran h) e (answersOf h) (history-answers h)
+
+-- ---- two histories
+
+-- two histories that start alike and make the same calls, whatever decays between them: the same answers, and ends that are alike
+pub independent : {w v : World} {a b : Account} (h : History play w a) (k : History play v b) → Alike (startOf h) (startOf k) → callsOf k ≡ callsOf h
+    → (answersOf k ≡ answersOf h) × Alike w v
+independent h k p c = (
+  history-answers k ∙ ap (answered (startOf k)) c ∙ answered-same p (callsOf h) ∙ sym (history-answers h),
+  alike-trans (alike-sym (history-ran h)) (alike-trans (rw (← c) (ran-alike p (callsOf k))) (history-ran k)),
+)
+
+-- open too: of two images that differ at most in the bytes of the card that is out it answers and leaves the same
+pub open-unseen : (g : Geometry) (out : ℕ) (table : List Record) (work image image′ : List ℕ) → Decayed (openedState g out) image image′
+    → opening g out table work image′ ≡ opening g out table work image
+open-unseen g out table work image image′ d = open-same g out table work image image′ d
