@@ -1,9 +1,9 @@
 -- What must come before each step, as a set.
 -- Assumes nothing.
 use Prim.Native.Nat.{ℕ, _+_, _*_, _^_, _≤_, _<_}
-use mathlib.Core.Bool.{Bool, true, false, cond}
+use mathlib.Core.Bool.{Bool, false}
 use mathlib.Core.Logic.{⊎-elim}
-use mathlib.Core.Path.{_≡_, refl, sym, ap, _∙_}
+use mathlib.Core.Path.{_≡_, refl, sym, _∙_}
 use native.Mathlib.Omega.{arith}
 use borrow.Author.Tests.{ltb-true, ltb-false, eq-eqb, ne-eqb}
 use lib.Bits.{bitAnd}
@@ -13,10 +13,10 @@ use Rattle.terms.proofs.Bits.{bit-setOf, bit-beyond, setOf-bound}
 use Rattle.terms.proofs.Rows.{truth}
 use Rattle.graph.specs.Asked.{stepSet, beforeSet}
 use Rattle.graph.specs.Order.{anyRead, readOf, isSum, before, complete}
-use Rattle.graph.specs.Steps.{Step, rd, xr, wr, nil, stepOf, stepNumbers, byGraph, reads, member}
+use Rattle.graph.specs.Steps.{Step, wr, stepOf, stepNumbers, byGraph, reads, member}
 use Rattle.graph.proofs.Graphs.{Graph, plain, degraded, small, reconstruct, large, failed, nought, above, byGraph-above}
 use Rattle.graph.proofs.Numbers.{Numbered, reading, summing, writing, numbered, stepOf-read, stepOf-sum, stepOf-write, stepOf-above}
-use Rattle.graph.proofs.Rules.{setOf-cong, setOf-none, setOf-one, setOf-widen, subset-test}
+use Rattle.graph.proofs.Rules.{setOf-none, setOf-one, setOf-widen, subset-test}
 
 -- ---- which numbers are the graph's reads, the exclusive or, one position's read
 

@@ -4,10 +4,10 @@ use Prim.Native.Nat.{ℕ, zero, suc, _<_, _≤_}
 use mathlib.Core.Bool.{true, false, _||_}
 use mathlib.Core.Path.{_≡_, refl, sym, _∙_}
 use native.Mathlib.Omega.{arith}
-use lib.Dec.{ltb, leb, eqb}
+use lib.Dec.{ltb, eqb}
 use borrow.Author.Tests.{ne-eqb, le-ltb}
 use Rattle.graph.specs.Sums.{takesNew}
-use Rattle.graph.specs.Steps.{byGraph, masked, unmasked, readBase, sums, writeBase}
+use Rattle.graph.specs.Steps.{byGraph, masked, readBase, sums, writeBase}
 
 pub data Graph : ℕ → Type 0 where
   plain : Graph 1

@@ -2,20 +2,20 @@
 -- Assumes nothing.
 use Prim.Native.Nat.{ℕ, _+_, _-_, _*_, _/_, _^_, _≤_, _<_}
 use mathlib.Core.Bool.{Bool, true, false, and-true}
-use mathlib.Core.Logic.{_⊎_, inl, inr, ⊎-elim}
+use mathlib.Core.Logic.{_⊎_, ⊎-elim}
 use mathlib.Core.Path.{_≡_, refl, sym, ap, _∙_}
 use native.Mathlib.Nat.{lt-of-le-of-lt}
 use native.Mathlib.Omega.{arith}
 use borrow.Author.Tests.{eqb-true, eq-eqb, ne-eqb, ltb-true, ltb-false}
 use lib.Bits.{bitAnd, and-le-r}
-use lib.Dec.{ltb, eqb}
+use lib.Dec.{ltb}
 use lib.Pow.{ones-lt, shr-shr}
 use Rattle.terms.proofs.Bits.{bit-none, bit-full, bit-and, bit-setOf, setOf-bound, subset-elim, subset-intro}
 use Rattle.terms.proofs.Rows.{truth, true≢false}
 use Rattle.terms.specs.Sets.{bit, setOf}
 use Rattle.graph.specs.Asked.{stepSet}
 use Rattle.graph.specs.Order.{anyRead, readOf, isSum, before, cleared, closed}
-use Rattle.graph.specs.Steps.{Step, rd, xr, wr, stepOf, stepNumbers, byGraph, reads, member}
+use Rattle.graph.specs.Steps.{Step, rd, xr, wr, stepOf, stepNumbers, byGraph, reads}
 use Rattle.graph.proofs.Forerunners.{any-read-at, any-read-past, sum-at, read-at, bit-steps}
 use Rattle.graph.proofs.Graphs.{graph}
 use Rattle.graph.proofs.Laws.{cleared-elim, cleared-intro, closed-bound, closed-elim, closed-intro, before-unit-write}

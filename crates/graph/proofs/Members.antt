@@ -1,14 +1,13 @@
 -- A graph that the table chooses has a step.
 -- Assumes nothing.
-use Prim.Native.Nat.{ℕ, _+_, _*_, _^_, _≤_, _<_}
-use mathlib.Core.Bool.{Bool, true, false, cond, not, _&&_, _||_}
-use mathlib.Core.Logic.{_⊎_, inl, inr, ⊎-elim}
+use Prim.Native.Nat.{ℕ, _+_, _*_, _^_, _<_}
+use mathlib.Core.Bool.{Bool, true, false, cond}
 use mathlib.Core.Path.{_≡_, refl, sym, ap, _∙_}
 use native.Mathlib.Omega.{arith}
-use borrow.Author.Tests.{eqb-true, eqb-false, ne-eqb, lt-ltb}
+use borrow.Author.Tests.{eqb-true, ne-eqb, lt-ltb}
 use lib.Count.{ones}
 use lib.Dec.{ltb, eqb}
-use Rattle.terms.proofs.Rows.{truth, true≢false}
+use Rattle.terms.proofs.Rows.{true≢false}
 use Rattle.terms.specs.Reply.{firstRow}
 use Rattle.terms.specs.Sets.{bit}
 use Rattle.graph.specs.Choice.{unitOut, unitOutIn, allUnits, chooseRead, chooseWrite, choose}

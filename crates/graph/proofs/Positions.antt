@@ -1,18 +1,17 @@
 -- The sets of positions that a graph reads and writes, as the code makes them from the mask.
 -- Assumes nothing.
 use Prim.Native.Nat.{ℕ, _+_, _-_, _*_, _%_, _^_, _≤_, _<_}
-use mathlib.Core.Bool.{Bool, cond, true, false, not, _&&_, _||_, and-true, or-true, or-false}
+use mathlib.Core.Bool.{Bool, cond, false, not, _||_, and-true, or-true, or-false}
 use mathlib.Core.Logic.{_⊎_, ⊎-elim}
 use mathlib.Core.Path.{_≡_, refl, sym, ap, _∙_}
 use native.Mathlib.Nat.{lt-of-le-of-lt, lt-of-lt-of-le}
 use native.Mathlib.Omega.{arith}
 use lib.Arith.{digits-lt}
 use lib.Bits.{bitAnd, and-le-r}
-use lib.Dec.{ltb, leb, eqb}
+use lib.Dec.{leb, eqb}
 use lib.Pow.{pow-pos, pow-lt, pow-mono, pow-add, shl-exact, ones-lt}
 use borrow.Author.Tests.{eq-eqb, ne-eqb, le-leb, lt-ltb, le-ltb}
-use Rattle.terms.proofs.Bits.{bit-beyond, bit-full, bit-rest, bit-low, bit-high, bit-and, bit-add-same, bit-add-other, bit-setOf, setOf-bound, is-setOf, add-bound}
-use Rattle.terms.proofs.Rows.{truth}
+use Rattle.terms.proofs.Bits.{bit-beyond, bit-full, bit-rest, bit-low, bit-high, bit-and, bit-add-same, bit-add-other, bit-setOf, setOf-bound, is-setOf}
 use Rattle.terms.proofs.Sets.{below-suc}
 use Rattle.terms.specs.Sets.{bit, setOf}
 use Rattle.graph.specs.Asked.{stepSet}

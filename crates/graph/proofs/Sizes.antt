@@ -4,21 +4,21 @@ use Prim.Native.Nat.{ℕ, zero, suc, _+_, _-_, _*_, _/_, _%_, _^_, _≤_, _<_}
 use mathlib.Core.Bool.{Bool, true, false, cond, not, _&&_, _||_, and-true, and-false}
 use mathlib.Core.Logic.{_⊎_, ⊎-elim}
 use mathlib.Core.Path.{_≡_, refl, sym, ap, ap₂, _∙_}
-use native.Mathlib.Nat.{add-zero, mod-eq-of-lt, one-mul, add-comm}
+use native.Mathlib.Nat.{add-zero, mod-eq-of-lt, add-comm}
 use native.Mathlib.Omega.{arith}
 use borrow.Author.Tests.{eqb-true, eqb-false, eq-eqb, ne-eqb, ltb-true, ltb-false, lt-leb, le-ltb}
 use lib.Bits.{and-mask}
 use lib.Count.{ones, ones-step, ones-cat, ones-ones}
 use lib.Dec.{ltb, leb, eqb}
-use lib.Pow.{pow-pos, pow-lt, ones-lt}
-use Rattle.terms.proofs.Bits.{bit-zero, bit-suc, bit-setOf, bit-beyond, bit-add-same, bit-add-other, add-bound, bit-ext, setOf-bound, is-setOf}
+use lib.Pow.{pow-pos}
+use Rattle.terms.proofs.Bits.{bit-zero, bit-suc, bit-setOf, bit-beyond, bit-add-same, bit-add-other, add-bound, setOf-bound, is-setOf}
 use Rattle.terms.proofs.Rows.{truth, true≢false}
 use Rattle.terms.specs.Sets.{bit, setOf}
 use Rattle.graph.specs.Asked.{stepSet}
 use Rattle.graph.specs.Steps.{byGraph, masked, unmasked, readBase, reads, sums, writeBase, writes}
 use Rattle.graph.proofs.Graphs.{Graph, plain, degraded, small, reconstruct, large, failed, nought, above, graph, byGraph-above, byGraph-same}
-use Rattle.graph.proofs.Positions.{masked-is, masked-bound, unmasked-is, masked-and-parity-is, all-positions, low, low-bound, steps-are}
-use Rattle.graph.proofs.Rules.{pow-next, setOf-cong, setOf-none}
+use Rattle.graph.proofs.Positions.{masked-is, unmasked-is, masked-and-parity-is, all-positions, low, low-bound, steps-are}
+use Rattle.graph.proofs.Rules.{setOf-cong, setOf-none}
 
 -- ---- the ones of a set
 

@@ -1,6 +1,6 @@
 -- What the functions on sets answer: a set as a number, where the units of a stripe are within the array's limits.
 -- Assumes nothing.
-use Prim.Native.Nat.{ℕ, _+_}
+use Prim.Native.Nat.{ℕ}
 use lib.Dec.{ltb, leb}
 use mathlib.Core.Bool.{Bool, cond, not, _&&_}
 use Rattle.terms.specs.Sets.{bit, setOf}

@@ -1,7 +1,7 @@
 // Records and tables, as slices of numbers: a state is six numbers, a record eight. A slice that is too short is read as zeros.
 ghost use mathlib.Core.Path.{_≡_};
 ghost use Prim.Native.Nat.{_≤_, min};
-ghost use lib.ListN.{length, getD};
+ghost use lib.ListN.{getD};
 ghost use Rattle.record.specs.Asked.{soundRecordIn, soundIn};
 ghost use Rattle.record.specs.Life.{recordsOf};
 ghost use Rattle.record.specs.Sound.{held, lowestFree};

@@ -1,7 +1,7 @@
 -- The stripes that open records hold, and which stripes are held by them.
 -- Assumes nothing.
-use Prim.Native.Nat.{ℕ, _+_, _≤_, _<_, min}
-use mathlib.Core.Bool.{Bool, true, false, cond, not, _&&_}
+use Prim.Native.Nat.{ℕ, _<_, min}
+use mathlib.Core.Bool.{true, not}
 use mathlib.Core.Logic.{_⊎_, ⊎-elim}
 use mathlib.Core.Path.{_≡_, refl, sym, ap, _∙_}
 use native.Mathlib.Omega.{arith}
@@ -10,7 +10,7 @@ use lib.Dec.{ltb, eqb}
 use lib.ListN.{length, getD}
 use Rattle.terms.proofs.Lists.{length-tabulate, getD-tabulate, every-elim, every-intro}
 use Rattle.terms.proofs.Rows.{truth}
-use Rattle.terms.specs.Lists.{tabulate, every}
+use Rattle.terms.specs.Lists.{every}
 use Rattle.graph.proofs.Rules.{both-ways}
 use Rattle.record.proofs.Eight.{at-below, at-past, past-eight, length-records}
 use Rattle.record.proofs.Filling.{filling, filling-is}

@@ -1,10 +1,10 @@
 -- What is known of a sound record that is not free, and what it allows: an open one has a ready step, and its steps can be marked and counted.
 -- Assumes nothing.
 use Prim.Native.Nat.{ℕ, _+_, _-_, _*_, _^_, _≤_, _<_}
-use mathlib.Core.Bool.{Bool, true, false, cond, not, _&&_, _||_}
+use mathlib.Core.Bool.{Bool, true, false, not, _&&_, _||_}
 use mathlib.Core.List.{List}
 use mathlib.Core.Logic.{_⊎_, inl, inr, ⊎-elim}
-use mathlib.Core.Path.{_≡_, refl, sym, ap, _∙_}
+use mathlib.Core.Path.{_≡_, refl, ap, _∙_}
 use native.Mathlib.Omega.{arith}
 use borrow.Author.Tests.{ltb-true, ltb-false, lt-ltb, leb-true, eqb-true, eqb-false, ne-eqb, not-true}
 use lib.Dec.{ltb, leb, eqb}
@@ -16,11 +16,10 @@ use Rattle.terms.specs.Sets.{within}
 use Rattle.geometry.specs.Limits.{none}
 use Rattle.geometry.specs.Placement.{outIn}
 use Rattle.geometry.specs.declared.State.{State}
-use Rattle.graph.proofs.Laws.{ready-elim, Ready, progress, member-below}
+use Rattle.graph.proofs.Laws.{ready-elim, progress, member-below}
 use Rattle.graph.specs.Asked.{fewUnits}
 use Rattle.graph.specs.Choice.{choose}
 use Rattle.graph.specs.Order.{ready, complete, closed}
-use Rattle.graph.specs.Steps.{stepNumbers}
 use Rattle.record.specs.Asked.{fewIn, canCount, canStep, steppedOr, afreshOr, soundIn}
 use Rattle.record.specs.Life.{free, recordsOf, isFree, isOpen, isFinished, isWrite, unitsOf, chosenAt, stepped, afresh}
 use Rattle.record.specs.Sound.{allZero, legalMask, legalRecord, legalChosen, rightGraph, rightSteps, lacksNone, rightCount, soundRecord, apart, sound}

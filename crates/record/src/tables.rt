@@ -4,15 +4,15 @@ ghost use mathlib.Core.Bool.{not};
 ghost use mathlib.Core.Path.{_≡_};
 ghost use Prim.Native.Nat.{_≤_, min};
 ghost use lib.ListN.{getD};
-ghost use Rattle.terms.specs.Lists.{tabulate};
 ghost use Rattle.terms.specs.Sets.{allBelow, lowest};
-ghost use Rattle.record.specs.Asked.{soundRecordIn, soundIn, heldStripe, heldStripes};
+ghost use Rattle.record.specs.Asked.{soundRecordIn, soundIn, heldStripes};
 ghost use Rattle.record.specs.Life.{free, isFree, recordsOf};
 ghost use Rattle.record.specs.Sound.{clash, holds, held, lowestFree};
 use crate::Record;
 use crate::Table;
 use crate::life::free;
 use crate::life::units;
+use crate::sound::NO_STRIPE;
 use geometry::State;
 
 // How many records there are: the length, at most eight.
@@ -142,7 +142,7 @@ impl Table {
         ensures { λ r. ⌜ r ≡ heldStripes self ⌝ }
     {
         let top = filled(self.len);
-        let mut stripes = [1024; 8];
+        let mut stripes = [NO_STRIPE; 8];
         let mut i = 0;
         while i < top {
             let r = self.records[i];

@@ -1,7 +1,7 @@
 -- `judge` meets its contract.
 -- Assumes nothing.
 use Prim.Native.Nat.{ℕ, _+_, _*_, _^_}
-use mathlib.Core.Bool.{Bool, true, false, cond}
+use mathlib.Core.Bool.{true, false, cond}
 use mathlib.Core.Path.{_≡_, sym, _∙_, ap, ap₂}
 use borrow.Author.Needs.{needs}
 use borrow.Author.Tests.{eq-eqb, ne-eqb, not-true, not-false}
@@ -9,7 +9,7 @@ use lib.Bits.{bitAnd}
 use lib.Dec.{eqb}
 use Rattle.terms.proofs.Bits.{setOf-bound}
 use Rattle.graph.specs.Asked.{stepSet, judged}
-use Rattle.graph.specs.Order.{complete, closed}
+use Rattle.graph.specs.Order.{complete}
 use Rattle.graph.specs.Steps.{sums, reads, writes}
 use Rattle.graph.proofs.Few.{few, many}
 use Rattle.graph.proofs.Forerunners.{complete-test}

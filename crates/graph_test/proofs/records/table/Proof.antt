@@ -1,6 +1,6 @@
 -- `table` meets its contract. The loop's invariant: the records passed are filled in.
 -- Assumes nothing.
-use Prim.Native.Nat.{ℕ, _+_, _-_, _/_, _≤_, _<_, min}
+use Prim.Native.Nat.{_-_, _/_, _≤_, min}
 use mathlib.Core.Bool.{cond}
 use mathlib.Core.List.{List, [], _∷_}
 use mathlib.Core.Path.{_≡_, ap, ap₂, _∙_}
@@ -16,7 +16,6 @@ use Rattle.graph_test.specs.Numbers.{recordFrom, tableFrom}
 use Rattle.record.proofs.Filling.{entry, filling, filling-more, filling-is}
 use Rattle.record.specs.Life.{free}
 use Rattle.record.specs.declared.Record.{Record}
-use Rattle.record.specs.declared.Table.{Table}
 
 -- `table` meets its contract. The loop's invariant: the records passed are filled in.
 -- Assumes nothing.

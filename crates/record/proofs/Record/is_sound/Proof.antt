@@ -1,7 +1,7 @@
 -- `is_sound` meets its contract: the clauses of the definition, in their order.
 -- Assumes nothing.
-use Prim.Native.Nat.{ℕ, _≤_, _<_}
-use mathlib.Core.Bool.{Bool, true, false}
+use Prim.Native.Nat.{ℕ}
+use mathlib.Core.Bool.{true, false}
 use mathlib.Core.Path.{_≡_, sym, _∙_, ap, ap₂}
 use native.Mathlib.Omega.{arith}
 use borrow.Author.Needs.{needs}
@@ -11,7 +11,7 @@ use Rattle.graph.proofs.Few.{few, many}
 use Rattle.graph.proofs.Judging.{judged-wrong, judged-wanting, judged-whole}
 use Rattle.graph.specs.Asked.{judged}
 use Rattle.graph.specs.Choice.{choose}
-use Rattle.graph.specs.Order.{complete, closed}
+use Rattle.graph.specs.Order.{closed}
 use Rattle.record.specs.Asked.{fewIn, soundRecordIn}
 use Rattle.record.specs.Life.{isFree, unitsOf, chosenAt}
 use Rattle.record.specs.Sound.{legalRecord, legalChosen, rightGraph, rightSteps, lacksNone, rightCount, soundRecord}

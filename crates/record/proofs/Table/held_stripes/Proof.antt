@@ -1,11 +1,11 @@
 -- `held_stripes` meets its contract. The loop's invariant: the stripes of the records passed are filled in.
 -- Assumes nothing.
-use Prim.Native.Nat.{ℕ, _+_, _-_, _≤_, _<_, min}
+use Prim.Native.Nat.{ℕ, _-_, _≤_, min}
 use mathlib.Core.List.{List}
 use mathlib.Core.Path.{_≡_, refl, ap, ap₂, _∙_}
 use native.Mathlib.Omega.{arith}
 use borrow.Author.Needs.{needs}
-use lib.ListN.{getD, length, set}
+use lib.ListN.{getD, set}
 use Rattle.terms.specs.Lists.{tabulate}
 use Rattle.record.specs.Asked.{noStripe, heldStripe}
 use Rattle.record.specs.Life.{free}

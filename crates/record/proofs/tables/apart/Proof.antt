@@ -1,11 +1,10 @@
 -- `apart` meets its contract. The outer loop's invariant: no record passed clashes with an earlier one. The inner loop's: record i clashes with none of those passed.
 -- Assumes nothing.
-use Prim.Native.Nat.{ℕ, _+_, _-_, _≤_, _<_}
-use mathlib.Core.Bool.{Bool, true, false, not}
+use Prim.Native.Nat.{_-_, _≤_}
+use mathlib.Core.Bool.{true, not}
 use mathlib.Core.Path.{_≡_, refl, sym, ap, _∙_}
-use native.Mathlib.Omega.{arith}
 use borrow.Author.Needs.{needs}
-use lib.ListN.{getD, length}
+use lib.ListN.{getD}
 use Rattle.terms.proofs.Sets.{allBelow-fail}
 use Rattle.terms.specs.Sets.{allBelow}
 use Rattle.record.specs.Life.{free}

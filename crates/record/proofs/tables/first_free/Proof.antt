@@ -1,18 +1,17 @@
 -- `first_free` meets its contract. The loop's invariant: no record passed is free.
 -- Assumes nothing.
-use Prim.Native.Nat.{ℕ, _+_, _-_, _≤_, _<_}
-use mathlib.Core.Bool.{Bool, true, false, not}
+use Prim.Native.Nat.{_-_, _≤_}
+use mathlib.Core.Bool.{true, not}
 use mathlib.Core.Path.{_≡_, refl, sym, ap, _∙_}
 use native.Mathlib.Omega.{arith}
 use borrow.Author.Needs.{needs}
 use borrow.Author.Tests.{eq-eqb, ne-eqb, not-true}
-use lib.ListN.{getD, length}
+use lib.ListN.{getD}
 use Rattle.terms.proofs.Sets.{allBelow-elim, lowest-is, lowest-none}
 use Rattle.terms.specs.Sets.{allBelow}
-use Rattle.terms.specs.Sets.{lowest}
 use Rattle.record.specs.Life.{free}
 use Rattle.record.specs.Life.{isFree}
-use Rattle.record.proofs.Loops.{all-more, all-done}
+use Rattle.record.proofs.Loops.{all-more}
 use Rattle.record.proofs.tables.first_free.Statement.{statement}
 use Rattle.record.proofs.tables.first_free.Tie as tie
 
