@@ -2,7 +2,8 @@
 use std::path::PathBuf;
 
 fn main() {
-    let folder = PathBuf::from(std::env::var("CARGO_MANIFEST_DIR").unwrap()).join("../target/staticlib");
+    let folder =
+        PathBuf::from(std::env::var("CARGO_MANIFEST_DIR").unwrap()).join("../target/staticlib");
     println!("cargo:rustc-link-search=native={}", folder.display());
     for name in ["recorder", "graph_test"] {
         let library = folder.join(format!("lib{name}.a"));

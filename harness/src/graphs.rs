@@ -14,8 +14,12 @@ extern "C" {
     fn graph_test_takes_read(n: u64, g: u64, mask: u64, x: u64, p: u64) -> bool;
     fn graph_test_takes_new(n: u64, g: u64, mask: u64, p: u64) -> bool;
     fn graph_test_sums_to_read(g: u64) -> bool;
-    fn record_test_sound(state: *const u64, state_len: usize, record: *const u64, record_len: usize) -> bool;
-    fn table_test_sound(state: *const u64, state_len: usize, table: *const u64, table_len: usize) -> bool;
+    fn table_test_sound(
+        state: *const u64,
+        state_len: usize,
+        table: *const u64,
+        table_len: usize,
+    ) -> bool;
     fn table_test_lowest_free(table: *const u64, table_len: usize) -> u64;
     fn table_test_held(table: *const u64, table_len: usize, stripe: u64) -> bool;
 }
@@ -96,11 +100,6 @@ fn table_numbers(table: &[Record]) -> (*const u64, usize) {
 }
 
 // Safe, here and below: what is lent is lent whole, for the time of the call.
-pub fn record_sound(state: &State, record: &Record) -> bool {
-    let ((state, state_len), (record, len)) = (state_numbers(state), table_numbers(std::slice::from_ref(record)));
-    unsafe { record_test_sound(state, state_len, record, len) }
-}
-
 pub fn sound(state: &State, table: &[Record]) -> bool {
     let ((state, state_len), (table, len)) = (state_numbers(state), table_numbers(table));
     unsafe { table_test_sound(state, state_len, table, len) }

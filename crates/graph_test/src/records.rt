@@ -1,8 +1,8 @@
-// Records and tables, as slices of numbers: a state is six numbers, a record eight. A slice that is too short is read as zeros.
+// Tables, as slices of numbers: a state is six numbers, and zeros where the slice is too short; a record is eight.
 ghost use mathlib.Core.Path.{_≡_};
-ghost use Prim.Native.Nat.{_≤_, min};
-ghost use lib.ListN.{getD};
-ghost use Rattle.record.specs.Asked.{soundRecordIn, soundIn};
+ghost use Prim.Native.Nat.{_+_, _*_, _≤_, min};
+ghost use lib.ListN.{length, getD};
+ghost use Rattle.record.specs.Asked.{soundIn};
 ghost use Rattle.record.specs.Life.{recordsOf};
 ghost use Rattle.record.specs.Sound.{held, lowestFree};
 ghost use Rattle.graph_test.specs.Numbers.{stateFrom, recordFrom, tableFrom};
@@ -33,20 +33,21 @@ fn state(numbers: &[u64]) -> State
     }
 }
 
+// The record of the eight numbers from 8·i on.
 fn record(numbers: &[u64], i: usize) -> Record
-    requires { ⌜ i ≤ 8 ⌝ }
+    requires { ⌜ (i ≤ 8) × (8 * i + 8 ≤ length (now numbers)) ⌝ }
     ensures { λ r. ⌜ r ≡ recordFrom (now (numbers .entry)) i ⌝ }
 {
     let first = 8 * i;
     Record {
-        phase: at(numbers, first),
-        write: at(numbers, first + 1),
-        stripe: at(numbers, first + 2),
-        mask: at(numbers, first + 3),
-        graph: at(numbers, first + 4),
-        chosen: at(numbers, first + 5),
-        done: at(numbers, first + 6),
-        count: at(numbers, first + 7),
+        phase: numbers[first],
+        write: numbers[first + 1],
+        stripe: numbers[first + 2],
+        mask: numbers[first + 3],
+        graph: numbers[first + 4],
+        chosen: numbers[first + 5],
+        done: numbers[first + 6],
+        count: numbers[first + 7],
     }
 }
 
@@ -75,13 +76,6 @@ fn table(numbers: &[u64]) -> Table
         records,
         len: len as u64,
     }
-}
-
-#[no_mangle]
-pub extern "C" fn record_test_sound(numbers: &[u64], one: &[u64]) -> bool
-    ensures { λ r. ⌜ r ≡ soundRecordIn (stateFrom (now (numbers .entry))) (recordFrom (now (one .entry)) 0) ⌝ }
-{
-    record(one, 0).is_sound(state(numbers))
 }
 
 #[no_mangle]

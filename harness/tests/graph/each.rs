@@ -14,7 +14,12 @@ pub struct Chosen {
 
 impl Chosen {
     pub fn asked(&self) -> Asked {
-        Asked { units: self.units, graph: self.graph, mask: self.mask, missing: self.missing.unwrap_or(self.units + 1) }
+        Asked {
+            units: self.units,
+            graph: self.graph,
+            mask: self.mask,
+            missing: self.missing.unwrap_or(self.units + 1),
+        }
     }
 
     pub fn plan(&self) -> Plan {

@@ -45,7 +45,9 @@ fn sums() {
         for position in 0..=chosen.units + 2 {
             let read = position <= chosen.units && plan.reads >> position & 1 == 1;
             assert_eq!(asked.takes_read(position), read, "position {position} of {asked:?}");
-            let new = (3..=5).contains(&chosen.graph) && position < chosen.units && chosen.mask >> position & 1 == 1;
+            let new = (3..=5).contains(&chosen.graph)
+                && position < chosen.units
+                && chosen.mask >> position & 1 == 1;
             assert_eq!(asked.takes_new(position), new, "position {position} of {asked:?}");
         }
         assert_eq!(sums_to_read(chosen.graph), chosen.graph == 2);
@@ -66,7 +68,11 @@ fn every_done_set() {
             assert_eq!(asked.judge(done), judged(&plan, done), "{done:b} of {asked:?}");
             assert_eq!(asked.complete(done), done == steps, "{done:b} of {asked:?}");
             for step in 0..=2 * chosen.units + 3 {
-                assert_eq!(asked.ready(done, step), plan.ready(done, step), "{step} after {done:b} of {asked:?}");
+                assert_eq!(
+                    asked.ready(done, step),
+                    plan.ready(done, step),
+                    "{step} after {done:b} of {asked:?}"
+                );
             }
         }
     });

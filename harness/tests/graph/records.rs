@@ -1,13 +1,13 @@
 //! Soundness of one record.
 
 use crate::each::subsets;
-use harness::graphs::{record_sound, sound as table_sound};
+use harness::graphs::sound as sound_by_library;
 use harness::plain::record::{sound, FINISHED, OPEN};
 use harness::plain::{Record, State, NONE};
 
 fn same(state: &State, record: Record) -> bool {
     let plain = sound(state, &[record]);
-    assert_eq!(record_sound(state, &record), plain, "{record:?} in {state:?}");
+    assert_eq!(sound_by_library(state, &[record]), plain, "{record:?} in {state:?}");
     plain
 }
 
@@ -19,7 +19,16 @@ pub fn requests(state: &State) -> Vec<Record> {
     for &chosen in &cards {
         for stripe in 0..state.stripes {
             for (mask, write) in (1..1 << state.units()).flat_map(|mask| [(mask, 0), (mask, 1)]) {
-                let request = Record { phase: OPEN, write, stripe, mask, graph: 0, chosen, done: 0, count: 0 };
+                let request = Record {
+                    phase: OPEN,
+                    write,
+                    stripe,
+                    mask,
+                    graph: 0,
+                    chosen,
+                    done: 0,
+                    count: 0,
+                };
                 all.push(Record { graph: request.graph_with(state, chosen), ..request });
             }
         }
@@ -29,7 +38,10 @@ pub fn requests(state: &State) -> Vec<Record> {
 
 /// Every card out, or none, of an array of N cards and as many stripes: one stripe of each kind.
 pub fn states(cards: u64) -> Vec<State> {
-    (0..cards).chain([NONE]).map(|out| State { cards, stripes: cards, block: 16, records: 8, out, lost: 0 }).collect()
+    (0..cards)
+        .chain([NONE])
+        .map(|out| State { cards, stripes: cards, block: 16, records: 8, out, lost: 0 })
+        .collect()
 }
 
 /// Every set of steps of every request there can be, open and finished, with counts at their limits.
@@ -48,7 +60,9 @@ fn every_done_set_of_every_request() {
                 for (phase, done, count) in [OPEN, FINISHED]
                     .iter()
                     .flat_map(|&phase| [(phase, 0), (phase, steps)])
-                    .flat_map(|(phase, done)| (longest - 2..=longest + 1).map(move |count| (phase, done, count)))
+                    .flat_map(|(phase, done)| {
+                        (longest - 2..=longest + 1).map(move |count| (phase, done, count))
+                    })
                 {
                     sound_ones += same(&state, Record { phase, done, count, ..request }) as u64;
                 }
@@ -62,7 +76,19 @@ fn every_done_set_of_every_request() {
 fn wild(state: &State) -> Vec<u64> {
     let n = state.units();
     let mut numbers = vec![0, 1 << 32, u64::MAX];
-    for limit in [1, 3, 6, n, state.cards, 2 * n + 2, 2 * n + 3, state.stripes, 1 << n, NONE, 1 << (2 * n + 3)] {
+    for limit in [
+        1,
+        3,
+        6,
+        n,
+        state.cards,
+        2 * n + 2,
+        2 * n + 3,
+        state.stripes,
+        1 << n,
+        NONE,
+        1 << (2 * n + 3),
+    ] {
         numbers.extend([limit - 1, limit, limit + 1]);
     }
     numbers
@@ -95,7 +121,8 @@ fn each_field_wild() {
             records.push(Record::default());
             for request in records {
                 let steps = if request.phase == OPEN { request.plan(&state).steps() } else { 0 };
-                for record in [request, Record { phase: 2 * request.phase, done: steps, ..request }] {
+                for record in [request, Record { phase: 2 * request.phase, done: steps, ..request }]
+                {
                     for place in 0..8 {
                         for &number in &numbers {
                             same(&state, changed(record, place, number));
@@ -114,15 +141,14 @@ fn wild_states() {
     for cards in [9, 10, 64, 65, 1 << 32, u64::MAX] {
         let state = State { cards, stripes: u64::MAX, block: 16, records: 8, out: 0, lost: 0 };
         for record in [record, Record::default()] {
-            assert!(!record_sound(&state, &record));
-            assert!(!table_sound(&state, &[record]));
+            assert!(!sound_by_library(&state, &[record]));
         }
     }
     for cards in 0..3 {
         let state = State { cards, stripes: 4, block: 16, records: 8, out: NONE, lost: 0 };
-        assert!(record_sound(&state, &Record::default()));
+        assert!(sound_by_library(&state, &[Record::default()]));
         for mask in 0..16 {
-            record_sound(&state, &Record { mask, ..record });
+            sound_by_library(&state, &[Record { mask, ..record }]);
         }
     }
 }

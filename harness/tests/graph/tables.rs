@@ -12,7 +12,14 @@ fn full(state: &State) -> Vec<Record> {
             let stripe = at % state.stripes;
             let mask = [1, (1 << units) - 1, 2, (1 << units) - 2][at as usize % 4];
             let chosen = if at % 2 == 0 { state.out } else { NONE };
-            let request = Record { phase: OPEN, write: (at % 3 > 0) as u64, stripe, mask, chosen, ..Record::default() };
+            let request = Record {
+                phase: OPEN,
+                write: (at % 3 > 0) as u64,
+                stripe,
+                mask,
+                chosen,
+                ..Record::default()
+            };
             let request = Record { graph: request.graph_with(state, chosen), ..request };
             if at < 4 {
                 return request;
@@ -24,7 +31,14 @@ fn full(state: &State) -> Vec<Record> {
 
 fn states() -> impl Iterator<Item = State> {
     (4..=8u64).flat_map(|cards| {
-        (0..cards).chain([NONE]).map(move |out| State { cards, stripes: 4, block: 16, records: 8, out, lost: 0 })
+        (0..cards).chain([NONE]).map(move |out| State {
+            cards,
+            stripes: 4,
+            block: 16,
+            records: 8,
+            out,
+            lost: 0,
+        })
     })
 }
 
@@ -67,7 +81,10 @@ fn each_clause_broken() {
             for (what, change) in BREAKS {
                 let mut table = whole.clone();
                 change(&state, &mut table[at]);
-                assert!(!record::sound(&state, &table), "{what}: record {at} of {table:?} in {state:?}");
+                assert!(
+                    !record::sound(&state, &table),
+                    "{what}: record {at} of {table:?} in {state:?}"
+                );
                 assert!(!sound(&state, &table), "{what}: record {at} of {table:?} in {state:?}");
             }
         }
@@ -82,8 +99,13 @@ fn a_forerunner_that_is_not_done() {
             let mut table = full(&state);
             let plan = table[at].plan(&state);
             for step in (0..=2 * state.units() + 2).filter(|&step| plan.steps() >> step & 1 == 1) {
-                table[at] = Record { phase: OPEN, stripe: table[at].stripe, done: 1 << step, ..table[at] };
-                assert_eq!(sound(&state, &table), record::sound(&state, &table), "{table:?} in {state:?}");
+                table[at] =
+                    Record { phase: OPEN, stripe: table[at].stripe, done: 1 << step, ..table[at] };
+                assert_eq!(
+                    sound(&state, &table),
+                    record::sound(&state, &table),
+                    "{table:?} in {state:?}"
+                );
             }
         }
     }
@@ -127,7 +149,11 @@ fn free_records_and_held_stripes() {
             let free = table.iter().position(|record| record.phase == 0).unwrap_or(length);
             assert_eq!(lowest_free(table), free as u64, "{table:?}");
             for stripe in 0..8 {
-                assert_eq!(held(table, stripe), record::held(table, stripe), "{stripe} of {table:?}");
+                assert_eq!(
+                    held(table, stripe),
+                    record::held(table, stripe),
+                    "{stripe} of {table:?}"
+                );
             }
         }
     }

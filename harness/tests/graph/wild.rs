@@ -4,7 +4,24 @@ use harness::graphs::{action, choose, Asked};
 use harness::plain::graph::Action;
 
 const NUMBERS: [u64; 18] = [
-    0, 1, 2, 3, 6, 7, 8, 16, 17, 62, 63, 64, 65, 255, 1 << 32, u64::MAX - 2, u64::MAX - 1, u64::MAX,
+    0,
+    1,
+    2,
+    3,
+    6,
+    7,
+    8,
+    16,
+    17,
+    62,
+    63,
+    64,
+    65,
+    255,
+    1 << 32,
+    u64::MAX - 2,
+    u64::MAX - 1,
+    u64::MAX,
 ];
 
 /// The paper's table on any numbers, in the widest integers there are.
@@ -31,7 +48,11 @@ fn choice() {
             for &missing in &NUMBERS {
                 for write in [false, true] {
                     let theirs = choose(units, write, mask, missing);
-                    assert_eq!(theirs, chosen(units, write, mask, missing), "{units} {write} {mask} {missing}");
+                    assert_eq!(
+                        theirs,
+                        chosen(units, write, mask, missing),
+                        "{units} {write} {mask} {missing}"
+                    );
                 }
             }
         }
@@ -70,7 +91,10 @@ fn sets_and_answers() {
                     assert!(!few || asked.steps() < 1 << (2 * units + 3), "{asked:?}");
                     for &number in &NUMBERS {
                         assert!(few || asked.before(number) == 0, "{asked:?}");
-                        assert!(few || !asked.complete(number) && asked.judge(number).is_none(), "{asked:?}");
+                        assert!(
+                            few || !asked.complete(number) && asked.judge(number).is_none(),
+                            "{asked:?}"
+                        );
                         assert!(few || !asked.ready(0, number), "{asked:?}");
                         asked.takes_read(number);
                         asked.takes_new(number);

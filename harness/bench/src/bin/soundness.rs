@@ -36,30 +36,31 @@ fn table(state: &State, chosen: u64) -> Vec<Record> {
         .collect()
 }
 
-/// Nanoseconds a call, the least of many rounds.
-fn clock(mut call: impl FnMut() -> bool) -> f64 {
-    let calls = 20_000;
-    (0..100)
-        .map(|_| {
-            let start = Instant::now();
-            for _ in 0..calls {
-                assert!(call());
-            }
-            start.elapsed().as_nanos() as f64 / calls as f64
-        })
-        .fold(f64::INFINITY, f64::min)
+/// Nanoseconds a call of one round.
+fn round(call: &mut impl FnMut() -> bool) -> f64 {
+    let calls = 2_000;
+    let start = Instant::now();
+    for _ in 0..calls {
+        assert!(call());
+    }
+    start.elapsed().as_nanos() as f64 / calls as f64
+}
+
+/// Nanoseconds a call of each, the least of many rounds; they take turns.
+fn clock(mut first: impl FnMut() -> bool, mut second: impl FnMut() -> bool) -> (f64, f64) {
+    (0..2_000).fold((f64::INFINITY, f64::INFINITY), |least, _| (least.0.min(round(&mut first)), least.1.min(round(&mut second))))
 }
 
 fn main() {
-    println!("A full table of N = {CARDS}, eight open records, found sound (nanoseconds; least of 100 rounds)");
+    println!("A full table of N = {CARDS}, eight open records, found sound (nanoseconds; least of 2,000 rounds)");
     println!();
     println!("| chosen | the library | plain Rust | library / plain |");
     println!("|---|---|---|---|");
     for (out, chosen, name) in [(NONE, NONE, "with none out"), (3, 3, "with the card that is out"), (3, NONE, "before the card was out")] {
         let state = State { cards: CARDS, stripes: 1024, block: 16, records: 8, out, lost: 0 };
         let table = table(&state, chosen);
-        let library = clock(|| graphs::sound(black_box(&state), black_box(&table)));
-        let plain = clock(|| sound(black_box(&state), black_box(&table)));
+        let (library, plain) =
+            clock(|| graphs::sound(black_box(&state), black_box(&table)), || sound(black_box(&state), black_box(&table)));
         println!("| {name} | {library:.0} | {plain:.0} | {:.2} |", library / plain);
     }
 }

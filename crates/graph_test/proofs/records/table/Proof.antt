@@ -37,7 +37,7 @@ unfolding filling entry tabulate
 loop-holds c = (search needs, ap (λ (r : Record). r ∷ r ∷ r ∷ r ∷ r ∷ r ∷ r ∷ r ∷ []) (c .free .ensures))
 
 record-requires : tie.Need-record-requires Inv-loop μ-loop
-record-requires c κs = omega (arith, c .before .before .before .capped .ensures)
+record-requires c κs = omega (arith, c .before .before .before .capped .ensures, c .loop-test .taken)
 
 mul-records : tie.Need-mul-records Inv-loop μ-loop
 mul-records c = record { fits = omega (arith, c .before .before .before .before .capped .ensures) }
