@@ -1,13 +1,16 @@
-//! Links the static library of the recorder's C functions, which `rt staticlib recorder` writes.
+//! Links the static libraries: the recorder's C functions, and those of graphs, records and tables that are for tests alone.
 use std::path::PathBuf;
 
 fn main() {
-    let folder = PathBuf::from(std::env::var("CARGO_MANIFEST_DIR").unwrap()).join("../target/staticlib");
-    let library = folder.join("librecorder.a");
-    println!("cargo:rerun-if-changed={}", library.display());
-    if !library.exists() {
-        panic!("there is no {}: run `rt staticlib recorder` first", library.display());
-    }
+    let folder =
+        PathBuf::from(std::env::var("CARGO_MANIFEST_DIR").unwrap()).join("../target/staticlib");
     println!("cargo:rustc-link-search=native={}", folder.display());
-    println!("cargo:rustc-link-lib=static=recorder");
+    for name in ["recorder", "graph_test"] {
+        let library = folder.join(format!("lib{name}.a"));
+        println!("cargo:rerun-if-changed={}", library.display());
+        if !library.exists() {
+            panic!("there is no {}: run `rt staticlib {name}` first", library.display());
+        }
+        println!("cargo:rustc-link-lib=static={name}");
+    }
 }

@@ -97,7 +97,10 @@ fn each_way_is_the_other_s_inverse() {
         for stripes in [1, 2, 3, 63, 64, 1024] {
             for block in 0..(cards - 1) * stripes {
                 let at = recorder::place(cards, stripes, block);
-                assert_eq!(recorder::block_at(cards, stripes, at.first, at.second), Answer::accepted(0, block));
+                assert_eq!(
+                    recorder::block_at(cards, stripes, at.first, at.second),
+                    Answer::accepted(0, block)
+                );
             }
         }
     }

@@ -13,7 +13,12 @@ fn at(state: &State, card: usize, stripe: usize, byte: usize) -> usize {
 
 fn same(state: &State, image: &[u8]) -> Answer {
     let reply = recorder::scan(state, image);
-    assert_eq!(reply, Answer::of(Plain.scan(state, image)), "{state:?}, an image of {} bytes", image.len());
+    assert_eq!(
+        reply,
+        Answer::of(Plain.scan(state, image)),
+        "{state:?}, an image of {} bytes",
+        image.len()
+    );
     reply
 }
 
@@ -65,9 +70,20 @@ fn one_damaged_byte() {
         let (cards, stripes, block) = state.sizes();
         let mut image = right_image(&mut numbers, &state);
         let (card, stripe, byte) = (cards - 1, stripes - 1, block - 1);
-        let mut places = vec![(0, 0, 0), (card, stripe, byte), (0, stripe, byte), (card, 0, 0), (0, 0, byte), (card, stripe, 0)];
+        let mut places = vec![
+            (0, 0, 0),
+            (card, stripe, byte),
+            (0, stripe, byte),
+            (card, 0, 0),
+            (0, 0, byte),
+            (card, stripe, 0),
+        ];
         for _ in 0..20 {
-            places.push((pick(&mut numbers, cards), pick(&mut numbers, stripes), pick(&mut numbers, block)));
+            places.push((
+                pick(&mut numbers, cards),
+                pick(&mut numbers, stripes),
+                pick(&mut numbers, block),
+            ));
         }
         for (card, stripe, byte) in places {
             let change = 1 << numbers.below(8);
@@ -86,8 +102,9 @@ fn several_damaged_bytes() {
         let (cards, stripes, block) = state.sizes();
         let right = right_image(&mut numbers, &state);
         for count in 2..10 {
-            let places: BTreeSet<(usize, usize)> =
-                (0..count).map(|_| (pick(&mut numbers, stripes), pick(&mut numbers, block))).collect();
+            let places: BTreeSet<(usize, usize)> = (0..count)
+                .map(|_| (pick(&mut numbers, stripes), pick(&mut numbers, block)))
+                .collect();
             let mut image = right.clone();
             for &(stripe, byte) in &places {
                 image[at(&state, pick(&mut numbers, cards), stripe, byte)] ^= 1 << numbers.below(8);

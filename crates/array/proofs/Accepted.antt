@@ -1,26 +1,23 @@
 -- What the code of an accepted step rests on: the record is sound, so its numbers are small, its graph is a choice of the table, and a step of it
 -- can be counted and performed.
 -- Assumes nothing.
-use Prim.Native.Nat.{ℕ, zero, suc, _+_, _-_, _*_, _^_, _≤_, _<_}
+use Prim.Native.Nat.{ℕ, _+_, _-_, _*_, _^_, _≤_, _<_}
 use mathlib.Core.Bool.{Bool, true, false, cond, not, _&&_, _||_}
 use mathlib.Core.List.{List, [], _∷_}
-use mathlib.Core.Logic.{_⊎_, inl, inr, ⊎-elim}
-use mathlib.Core.Path.{_≡_, refl, sym, ap, _∙_}
+use mathlib.Core.Path.{_≡_, refl, sym, _∙_}
 use native.Mathlib.Omega.{arith}
 use lib.Count.{ones}
 use lib.Dec.{ltb, leb, eqb}
-use lib.ListN.{length, getD}
-use borrow.Author.Tests.{eqb-true, eqb-false, ltb-true, leb-true, lt-ltb, le-leb, eq-eqb, ne-eqb, not-true, not-false}
+use lib.ListN.{getD}
+use borrow.Author.Tests.{eqb-true, ltb-true, leb-true, lt-ltb, le-leb, ne-eqb}
 use Rattle.terms.specs.Lists.{every}
 use Rattle.terms.specs.Reply.{row, firstRow}
 use Rattle.terms.specs.Sets.{bit, within}
 use Rattle.terms.proofs.Lists.{every-elim}
-use Rattle.terms.proofs.Rows.{and-left, and-right, and-both, true≢false}
-use Rattle.geometry.specs.Limits.{beyondState}
-use Rattle.geometry.specs.Store.{legalState}
+use Rattle.terms.proofs.Rows.{and-left, and-right, and-both}
 use Rattle.geometry.specs.declared.State.{State}
 use Rattle.geometry.proofs.Asked.{BoundsOf}
-use Rattle.geometry.proofs.Bounds.{Bounds, within-limits, bounds-legal}
+use Rattle.geometry.proofs.Bounds.{within-limits, bounds-legal}
 use Rattle.graph.specs.Asked.{fewUnits}
 use Rattle.graph.specs.Choice.{choose, chooseRead, chooseWrite, unitOut, unitOutIn, allUnits}
 use Rattle.graph.specs.Order.{ready, cleared}
@@ -28,12 +25,12 @@ use Rattle.graph.specs.Steps.{stepOf, member}
 use Rattle.graph.specs.Sums.{sumsToRead}
 use Rattle.graph.proofs.Laws.{member-below}
 use Rattle.record.specs.Asked.{fewIn, canCount, canStep, steppedOr, afreshOr}
-use Rattle.record.specs.Life.{free, isFree, isOpen, isFinished, isWrite, unitsOf, chosenAt, stepped, afresh}
+use Rattle.record.specs.Life.{free, isOpen, isFinished, isWrite, unitsOf, chosenAt, stepped, afresh}
 use Rattle.record.specs.Sound.{sound, soundRecord, apart, legalRecord, legalChosen, legalMask, rightGraph, rightSteps, rightCount, lacksNone}
 use Rattle.record.specs.declared.Record.{Record}
 use Rattle.array.specs.Premises.{Performing}
 use Rattle.array.specs.Refusals.{stepReady}
-use Rattle.array.proofs.Passed.{Right, Ready}
+use Rattle.array.proofs.Passed.{Ready}
 
 -- ---- the choice
 

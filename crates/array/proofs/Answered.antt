@@ -1,27 +1,25 @@
 -- What the calls hand back: refused, with nothing changed, and accepted.
 -- Assumes nothing.
-use Prim.Native.Nat.{ℕ, _≤_, _<_}
+use Prim.Native.Nat.{ℕ}
 use mathlib.Core.Bool.{Bool, true, false, cond}
 use mathlib.Core.List.{List}
-use mathlib.Core.Path.{_≡_, refl, sym, ap, _∙_}
-use native.Mathlib.Nat.{le-refl}
+use mathlib.Core.Path.{_≡_, sym, ap, _∙_}
 use native.Mathlib.Omega.{arith}
 use lib.Dec.{eqb}
 use lib.ListN.{length, getD, set}
 use lib.Seq.{set-out}
 use borrow.Author.Tests.{eq-eqb, ne-eqb}
-use Rattle.terms.specs.Reply.{Reply, accepted, refused, onAccept}
+use Rattle.terms.specs.Reply.{accepted, refused}
 use Rattle.geometry.specs.declared.State.{State}
 use Rattle.graph.specs.Steps.{stepOf}
 use Rattle.record.specs.Life.{free, isWrite, unitsOf, missingIn, admitted, stepped, afresh}
 use Rattle.record.specs.Sound.{lowestFree}
 use Rattle.record.specs.declared.Record.{Record}
-use Rattle.array.specs.Admission.{Admission, admission, keepUnits}
-use Rattle.array.specs.Answers.{admittedReply, steppedReply, collectedReply}
-use Rattle.array.specs.Collection.{Collection, collection, collecting, handOver}
+use Rattle.array.specs.Admission.{admission, keepUnits}
+use Rattle.array.specs.Collection.{collection, collecting, handOver}
 use Rattle.array.specs.Outcomes.{AdmissionIs, SteppingIs, CollectionIs, admittedOf, steppedOf, collectedOf}
 use Rattle.array.specs.Refusals.{admitRefusal, stepRefusal, collectRefusal}
-use Rattle.array.specs.Stepping.{Stepping, stepping, accepting, meetsOut, workAfter, imageAfter}
+use Rattle.array.specs.Stepping.{stepping, accepting, meetsOut, workAfter, imageAfter}
 use Rattle.array.specs.declared.answers.Admitted.{Admitted}
 use Rattle.array.specs.declared.answers.Collected.{Collected}
 use Rattle.array.specs.declared.answers.Stepped.{Stepped}

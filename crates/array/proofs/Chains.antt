@@ -4,13 +4,13 @@ use Prim.Native.Nat.{ℕ}
 use mathlib.Core.Bool.{Bool, true, false, cond, not, _||_, or-false}
 use mathlib.Core.List.{List, [], _∷_}
 use mathlib.Core.Path.{_≡_, refl, sym, ap, _∙_}
-use lib.Dec.{ltb, leb, eqb}
+use lib.Dec.{leb, eqb}
 use lib.ListN.{length, getD}
 use borrow.Author.Tests.{eq-eqb}
 use Rattle.terms.specs.Reply.{Row, row, firstRow}
 use Rattle.geometry.specs.Asked.{imageSizeIn, workSizeIn}
 use Rattle.geometry.specs.Limits.{none, beyondState, isLost}
-use Rattle.geometry.specs.Store.{imageSize, workSize, imageWrong, workWrong}
+use Rattle.geometry.specs.Store.{workSize, imageWrong, workWrong}
 use Rattle.geometry.specs.declared.State.{State}
 use Rattle.geometry.proofs.Asked.{imageSizeIn-is, workSizeIn-is}
 use Rattle.geometry.proofs.Bounds.{within-limits}

@@ -1,9 +1,9 @@
 -- What the code of an accepted admission or collection rests on: the record is one of the table's, the mask is legal, and the units have room.
 -- Assumes nothing.
-use Prim.Native.Nat.{ℕ, _-_, _^_, _≤_, _<_}
-use mathlib.Core.Bool.{Bool, true, false, cond, not, _&&_, _||_}
+use Prim.Native.Nat.{ℕ, _^_, _<_}
+use mathlib.Core.Bool.{true, false, not, _&&_, _||_}
 use mathlib.Core.List.{List}
-use mathlib.Core.Path.{_≡_, refl, sym, ap, _∙_}
+use mathlib.Core.Path.{_≡_}
 use native.Mathlib.Omega.{arith}
 use lib.Dec.{ltb, leb, eqb}
 use lib.ListN.{length, getD}
@@ -16,13 +16,13 @@ use Rattle.geometry.specs.Limits.{beyondState, isLost}
 use Rattle.geometry.specs.Store.{workWrong}
 use Rattle.geometry.specs.declared.State.{State}
 use Rattle.geometry.proofs.Bounds.{within-limits, bounds-legal}
-use Rattle.record.specs.Life.{free, isFree, isOpen, isFinished, isWrite, unitsOf}
+use Rattle.record.specs.Life.{free, isOpen, isFinished, isWrite, unitsOf}
 use Rattle.record.specs.Sound.{sound, soundRecord, apart, legalRecord, legalChosen, legalMask, rightGraph, rightSteps, rightCount, lowestFree}
 use Rattle.record.specs.declared.Record.{Record}
 use Rattle.array.specs.Lent.{tableWrong, unitBytes}
 use Rattle.array.specs.Premises.{Keeping}
 use Rattle.array.specs.Refusals.{admitRefusal, collectRefusal, resultShort}
-use Rattle.array.proofs.Passed.{Admitting, admit-passed, passed, table-length, work-length}
+use Rattle.array.proofs.Passed.{admit-passed, passed, table-length, work-length}
 
 -- a legal mask has no bit at n or above
 pub mask-small : (n mask : ℕ) → legalMask n mask ≡ true → mask < 2 ^ n

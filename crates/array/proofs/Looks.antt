@@ -1,15 +1,15 @@
 -- What the scan of an open array and the check at opening rest on: the look that parity's code takes is the one that the calls ask for.
 -- Assumes nothing.
 use Prim.Native.Nat.{ℕ, _≤_, _<_}
-use mathlib.Core.Bool.{Bool, true, false, cond, not, _&&_, _||_, and-false}
+use mathlib.Core.Bool.{Bool, true, false, cond, not, _&&_, _||_}
 use mathlib.Core.List.{List, [], _∷_}
-use mathlib.Core.Path.{_≡_, refl, sym, ap, ap₂, _∙_}
+use mathlib.Core.Path.{_≡_, refl, sym, ap, _∙_}
 use native.Mathlib.Omega.{arith}
-use lib.Dec.{ltb, leb, eqb}
+use lib.Dec.{ltb, eqb}
 use lib.ListN.{length, getD, List·getD-eq-default}
 use borrow.Author.Tests.{eq-eqb, ne-eqb, ltb-true, ltb-false}
 use Rattle.terms.specs.Lists.{tabulate, every}
-use Rattle.terms.specs.Reply.{Reply, Row, row, firstRow, accepted, refused, onAccept, refusedOr13}
+use Rattle.terms.specs.Reply.{row, firstRow, accepted, refused, onAccept, refusedOr13}
 use Rattle.terms.proofs.Lists.{length-tabulate, getD-tabulate, every-elim, every-intro}
 use Rattle.terms.proofs.Rows.{true≢false, or-false-left, or-false-right}
 use Rattle.geometry.specs.Asked.{workSizeIn}

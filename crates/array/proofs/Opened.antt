@@ -1,7 +1,7 @@
 -- What open answers, as the code meets its tests: refusals 1 and 2, and with none out the look at all stripes.
 -- Assumes nothing.
 use Prim.Native.Nat.{ℕ}
-use mathlib.Core.Bool.{Bool, true, false, cond, not, _&&_, _||_}
+use mathlib.Core.Bool.{Bool, true, false, cond, not, _&&_}
 use mathlib.Core.List.{List, [], _∷_}
 use mathlib.Core.Path.{_≡_, refl, sym, ap, _∙_}
 use native.Mathlib.Omega.{arith}
@@ -10,7 +10,7 @@ use lib.ListN.{length, replicate}
 use borrow.Author.Tests.{eq-eqb, ne-eqb}
 use Rattle.terms.specs.Reply.{Reply, row, firstRow, accepted, refused}
 use Rattle.geometry.specs.Asked.{imageSizeIn, workSizeIn}
-use Rattle.geometry.specs.Limits.{none, beyond, beyondState}
+use Rattle.geometry.specs.Limits.{none, beyondState}
 use Rattle.geometry.specs.Store.{imageWrong, workWrong}
 use Rattle.geometry.specs.declared.Geometry.{Geometry}
 use Rattle.geometry.specs.declared.State.{State}
@@ -20,7 +20,6 @@ use Rattle.parity.specs.Scan.{Named, scanOf, reply, lookReply, idleScanReply, i
 use Rattle.parity.specs.declared.Scan.{Scan}
 use Rattle.parity.proofs.Replies.{last-row, idle-all}
 use Rattle.record.specs.Life.{recordsOf}
-use Rattle.record.specs.declared.Record.{Record}
 use Rattle.record.specs.declared.Table.{Table}
 use Rattle.array.specs.Lent.{tableWrong}
 use Rattle.array.specs.Opening.{opening, zeroState}

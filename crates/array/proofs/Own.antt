@@ -1,25 +1,24 @@
 -- The refusals that are a call's own, as the code meets them once rows 1 to 4 are passed.
 -- Assumes nothing.
 use Prim.Native.Nat.{ℕ, _≤_, _<_}
-use mathlib.Core.Bool.{Bool, true, false, cond, not, _&&_, _||_}
+use mathlib.Core.Bool.{Bool, true, false, cond, not}
 use mathlib.Core.List.{List, [], _∷_}
-use mathlib.Core.Path.{_≡_, refl, sym, ap, _∙_}
+use mathlib.Core.Path.{_≡_, sym, ap, _∙_}
 use native.Mathlib.Omega.{arith}
-use lib.Dec.{ltb, leb, eqb}
+use lib.Dec.{leb, eqb}
 use lib.ListN.{length, getD}
 use borrow.Author.Tests.{eq-eqb, ne-eqb, le-leb, lt-leb}
-use Rattle.terms.specs.Reply.{Row, row, firstRow}
-use Rattle.geometry.specs.Asked.{imageSizeIn, workSizeIn}
-use Rattle.geometry.specs.Limits.{beyondState, isLost}
-use Rattle.geometry.specs.Store.{imageSize, workSize}
+use Rattle.terms.specs.Reply.{row, firstRow}
+use Rattle.geometry.specs.Asked.{imageSizeIn}
+use Rattle.geometry.specs.Limits.{beyondState}
 use Rattle.geometry.specs.declared.State.{State}
 use Rattle.geometry.proofs.Lengths.{state-bounds}
 use Rattle.graph.specs.Asked.{fewUnits}
 use Rattle.record.specs.Asked.{fewIn, readyIn}
-use Rattle.record.specs.Life.{free, isOpen, isFinished, isWrite, unitsOf}
-use Rattle.record.specs.Sound.{sound, held, legalMask, lowestFree}
+use Rattle.record.specs.Life.{free, isOpen, isFinished, unitsOf}
+use Rattle.record.specs.Sound.{held, legalMask, lowestFree}
 use Rattle.record.specs.declared.Record.{Record}
-use Rattle.array.specs.Lent.{tableWrong, unitBytes, lentRefusal}
+use Rattle.array.specs.Lent.{lentRefusal}
 use Rattle.array.specs.Refusals.{admitRefusal, stepRefusal, collectRefusal, payloadWrong, stepReady, resultShort}
 use Rattle.array.proofs.Chains.{admit-chain, step-chain, collect-chain}
 use Rattle.array.proofs.Passed.{passed}

@@ -1,15 +1,15 @@
 -- What the code of a done step carries and adds up is what the step leaves.
 -- Assumes nothing.
-use Prim.Native.Nat.{ℕ, _+_, _-_, _≤_, _<_}
+use Prim.Native.Nat.{ℕ, _+_, _≤_, _<_}
 use mathlib.Core.Bool.{Bool, true, false, cond}
 use mathlib.Core.List.{List, []}
-use mathlib.Core.Path.{_≡_, refl, sym, ap, ap₂, _∙_}
+use mathlib.Core.Path.{_≡_, refl, ap, ap₂, _∙_}
 use native.Mathlib.Nat.{zero-add}
 use native.Mathlib.Omega.{arith}
 use lib.Bits.{bitXor, xor-zero-l}
 use lib.ListN.{length, getD, length-replicate, getD-replicate}
 use borrow.Author.Tests.{eq-eqb}
-use Rattle.terms.specs.Lists.{tabulate, part, put}
+use Rattle.terms.specs.Lists.{part, put}
 use Rattle.terms.specs.Sets.{xorTo}
 use Rattle.terms.proofs.Lists.{is-tabulate, length-part, getD-part}
 use Rattle.terms.proofs.Sets.{xorTo-cong}
@@ -18,11 +18,11 @@ use Rattle.block.proofs.Blocks.{length-summed, getD-summed}
 use Rattle.block.proofs.Carried.{carried-whole}
 use Rattle.geometry.specs.Asked.{cellIn, writeIn, readIn, readPart, writePart}
 use Rattle.geometry.specs.Placement.{cardAt, cardIn}
-use Rattle.geometry.specs.Store.{cellAt, writeAt, readAt, workSize, workWrong}
+use Rattle.geometry.specs.Store.{writeAt, readAt, workWrong}
 use Rattle.geometry.specs.declared.State.{State}
 use Rattle.geometry.proofs.Asked.{BoundsOf, Inside, cellIn-is, cellIn-inside, writeIn-is, readIn-is, writeIn-inside, readIn-inside, readPart-is, writePart-is}
 use Rattle.geometry.proofs.Apart.{read-inside, write-inside}
-use Rattle.geometry.proofs.Bounds.{Bounds, legal-bounds}
+use Rattle.geometry.proofs.Bounds.{legal-bounds}
 use Rattle.geometry.proofs.Places.{cardAt-below}
 use Rattle.geometry.proofs.Turns.{cardIn-is}
 use Rattle.graph.specs.Steps.{rd, xr, wr}

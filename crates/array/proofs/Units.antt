@@ -1,24 +1,23 @@
 -- The loops that move the units of a mask: to a record's blocks to write, and from its read blocks to the result buffer. A turn of the code is
 -- a turn of the definition.
 -- Assumes nothing.
-use Prim.Native.Nat.{ℕ, suc, _+_, _-_, _*_, _≤_, _<_}
-use mathlib.Core.Bool.{Bool, true, false, cond}
+use Prim.Native.Nat.{ℕ, _+_, _*_, _≤_, _<_}
+use mathlib.Core.Bool.{true, false}
 use mathlib.Core.List.{List}
-use mathlib.Core.Path.{_≡_, refl, sym, ap, ap₂, _∙_}
+use mathlib.Core.Path.{_≡_, sym, ap, ap₂, _∙_}
 use native.Mathlib.Nat.{mul-le-mul-right}
 use native.Mathlib.Omega.{arith}
 use lib.Count.{ones}
 use lib.ListN.{length}
-use Rattle.terms.specs.Lists.{part, put, changes}
+use Rattle.terms.specs.Lists.{part, put}
 use Rattle.terms.specs.Sets.{bit}
 use Rattle.terms.proofs.Lists.{length-put, length-part}
 use Rattle.block.specs.Blocks.{carried}
 use Rattle.block.proofs.Carried.{carried-whole}
 use Rattle.geometry.specs.Asked.{writeIn, readIn}
-use Rattle.geometry.specs.Store.{writeAt, readAt, workSize}
 use Rattle.geometry.specs.declared.State.{State}
 use Rattle.geometry.proofs.Asked.{BoundsOf, Inside, writeIn-is, readIn-is, writeIn-inside, readIn-inside}
-use Rattle.geometry.proofs.Bounds.{Bounds, legal-bounds}
+use Rattle.geometry.proofs.Bounds.{legal-bounds}
 use Rattle.record.specs.Life.{unitsOf}
 use Rattle.array.specs.Admission.{keepUnit}
 use Rattle.array.specs.Collection.{handUnit}

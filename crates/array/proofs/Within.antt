@@ -1,11 +1,11 @@
 -- A step's position is one of the stripe's, whatever its number; and what a step leaves is what the action that stands for it leaves.
 -- Assumes nothing.
-use Prim.Native.Nat.{ℕ, _+_, _-_, _*_, _≤_, _<_}
+use Prim.Native.Nat.{ℕ, _+_, _-_, _*_, _<_}
 use mathlib.Core.Bool.{Bool, true, false, cond}
 use mathlib.Core.List.{List}
 use mathlib.Core.Path.{_≡_, refl, sym, ap, _∙_, subst}
 use native.Mathlib.Omega.{arith}
-use borrow.Author.Tests.{leb-true, leb-false}
+use borrow.Author.Tests.{leb-true}
 use lib.Dec.{leb, eqb}
 use Rattle.graph.specs.Steps.{Step, rd, xr, wr, nil, stepOf}
 use Rattle.geometry.specs.declared.State.{State}

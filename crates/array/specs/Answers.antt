@@ -6,7 +6,6 @@ use Rattle.array.specs.declared.answers.Opened.{Opened}
 use Rattle.array.specs.declared.answers.Admitted.{Admitted}
 use Rattle.array.specs.declared.answers.Stepped.{Stepped}
 use Rattle.array.specs.declared.answers.Collected.{Collected}
-use Rattle.array.specs.declared.answers.Scanned.{Scanned}
 
 -- refusal 13, with the lowest stripe and the lowest byte in it
 abbrev pub disagreeing : ℕ → ℕ → Reply
@@ -29,8 +28,3 @@ steppedReply (Stepped.Refused k) = refused k
 abbrev pub collectedReply : Collected → Reply
 collectedReply (Collected.Steps c) = accepted c 0
 collectedReply (Collected.Refused k) = refused k
-
-abbrev pub scannedReply : Scanned → Reply
-scannedReply Scanned.Right = accepted 0 0
-scannedReply (Scanned.Refused k) = refused k
-scannedReply (Scanned.Disagrees s b) = disagreeing s b

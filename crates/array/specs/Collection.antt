@@ -1,7 +1,7 @@
 -- Document 01, "What the calls do", collect: what it answers and leaves.
 -- Assumes nothing.
 use Prim.Native.Nat.{ℕ, _*_}
-use mathlib.Core.Bool.{Bool, cond}
+use mathlib.Core.Bool.{cond}
 use mathlib.Core.List.{List}
 use lib.ListN.{getD, set}
 use Rattle.terms.specs.Lists.{part, put, changes}

@@ -1,10 +1,9 @@
 -- Document 01, "What the calls do", open: what it answers and leaves.
 -- Assumes nothing.
 use Prim.Native.Nat.{ℕ}
-use mathlib.Core.Bool.{Bool}
-use mathlib.Core.List.{List, map}
+use mathlib.Core.List.{List}
 use lib.ListN.{length, replicate}
-use Rattle.terms.specs.Reply.{Reply, accepted, refused, onAccept, refusedOr13}
+use Rattle.terms.specs.Reply.{Reply, accepted, onAccept, refusedOr13}
 use Rattle.geometry.specs.declared.Geometry.{Geometry}
 use Rattle.geometry.specs.declared.State.{State}
 use Rattle.parity.specs.Parity.{disagreement}

@@ -8,17 +8,15 @@ use mathlib.Core.Path.{_≡_}
 use lib.Dec.{eqb}
 use lib.ListN.{length, set}
 use Rattle.terms.specs.Reply.{Reply, onAccept}
-use Rattle.record.specs.Life.{free}
 use Rattle.record.specs.declared.Record.{Record}
 use Rattle.array.specs.Admission.{Admission}
-use Rattle.array.specs.Answers.{openedReply, admittedReply, steppedReply, collectedReply, scannedReply}
+use Rattle.array.specs.Answers.{openedReply, admittedReply, steppedReply, collectedReply}
 use Rattle.array.specs.Collection.{Collection}
 use Rattle.array.specs.Opening.{Opening}
 use Rattle.array.specs.Stepping.{Stepping}
 use Rattle.array.specs.declared.answers.Admitted.{Admitted}
 use Rattle.array.specs.declared.answers.Collected.{Collected}
 use Rattle.array.specs.declared.answers.Opened.{Opened}
-use Rattle.array.specs.declared.answers.Scanned.{Scanned}
 use Rattle.array.specs.declared.answers.Stepped.{Stepped}
 use Rattle.array.specs.declared.answers.Admission as admission
 use Rattle.array.specs.declared.answers.Collection as collection
@@ -39,10 +37,6 @@ steppedOf r =
 
 unfoldable pub collectedOf : Reply → Collected
 collectedOf r = cond (eqb (r .number) 0) (Collected.Steps (r .first)) (Collected.Refused (r .number))
-
-unfoldable pub scannedOf : Reply → Scanned
-scannedOf r =
-    cond (eqb (r .number) 0) Scanned.Right (cond (eqb (r .number) 13) (Scanned.Disagrees (r .first) (r .second)) (Scanned.Refused (r .number)))
 
 -- open: its answer, and the new state
 pub record OpeningIs (d : Opening) (o : opening.Opening) : Type 0 where

@@ -29,13 +29,6 @@ pub enum Collected {
     Refused(u64),
 }
 
-// Of scan: parity is right; refused; or refused by 13, with the lowest stripe and the lowest byte in it.
-pub enum Scanned {
-    Right,
-    Refused(u64),
-    Disagrees(u64, u64),
-}
-
 // What open hands back: its answer, and the new state, all zero if refused.
 pub struct Opening {
     pub answer: Opened,

@@ -36,7 +36,7 @@ fn is_open(answer: Opened) -> bool
     }
 }
 
-// Opens an array: the answer and the new state, all zero if refused. Every record is freed.
+// Opens an array: the answer and the new state, all zero if refused. Where it is accepted, every record is freed.
 pub fn open(
     geometry: Geometry,
     out: u64,

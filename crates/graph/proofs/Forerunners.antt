@@ -1,21 +1,22 @@
 -- What must come before each step, as a set.
 -- Assumes nothing.
 use Prim.Native.Nat.{ℕ, _+_, _*_, _^_, _≤_, _<_}
-use mathlib.Core.Bool.{Bool, true, false, cond}
+use mathlib.Core.Bool.{Bool, false}
 use mathlib.Core.Logic.{⊎-elim}
-use mathlib.Core.Path.{_≡_, refl, sym, ap, _∙_}
+use mathlib.Core.Path.{_≡_, refl, sym, _∙_}
 use native.Mathlib.Omega.{arith}
 use borrow.Author.Tests.{ltb-true, ltb-false, eq-eqb, ne-eqb}
+use lib.Bits.{bitAnd}
 use lib.Dec.{ltb, eqb}
 use Rattle.terms.specs.Sets.{bit, setOf}
 use Rattle.terms.proofs.Bits.{bit-setOf, bit-beyond, setOf-bound}
 use Rattle.terms.proofs.Rows.{truth}
 use Rattle.graph.specs.Asked.{stepSet, beforeSet}
-use Rattle.graph.specs.Order.{anyRead, readOf, isSum, before}
-use Rattle.graph.specs.Steps.{Step, rd, xr, wr, nil, stepOf, stepNumbers, byGraph, reads, member}
+use Rattle.graph.specs.Order.{anyRead, readOf, isSum, before, complete}
+use Rattle.graph.specs.Steps.{Step, wr, stepOf, stepNumbers, byGraph, reads, member}
 use Rattle.graph.proofs.Graphs.{Graph, plain, degraded, small, reconstruct, large, failed, nought, above, byGraph-above}
 use Rattle.graph.proofs.Numbers.{Numbered, reading, summing, writing, numbered, stepOf-read, stepOf-sum, stepOf-write, stepOf-above}
-use Rattle.graph.proofs.Rules.{setOf-cong, setOf-none, setOf-one, setOf-widen}
+use Rattle.graph.proofs.Rules.{setOf-none, setOf-one, setOf-widen, subset-test}
 
 -- ---- which numbers are the graph's reads, the exclusive or, one position's read
 
@@ -111,3 +112,8 @@ bit-steps n g mask x k =
     let h = ltb-false k (stepNumbers n) e in
     bit-beyond (stepNumbers n) (setOf (stepNumbers n) p) k (setOf-bound (stepNumbers n) p) h ∙ sym (rw (stepOf-above n k h)))
     (truth (ltb k (stepNumbers n)))
+
+-- no step is wanting where the steps are a subset of the done ones
+pub complete-test : (n g mask x done : ℕ) → eqb (bitAnd (stepSet n g mask x) done) (stepSet n g mask x) ≡ complete n g mask x done
+unfolding stepSet complete
+complete-test n g mask x done = subset-test (stepNumbers n) (λ k. member n g mask x (stepOf n k)) done

@@ -4,10 +4,10 @@ use Prim.Native.Nat.{ℕ, zero, suc, _<_, _≤_}
 use mathlib.Core.Bool.{true, false, _||_}
 use mathlib.Core.Path.{_≡_, refl, sym, _∙_}
 use native.Mathlib.Omega.{arith}
-use lib.Dec.{ltb, leb, eqb}
+use lib.Dec.{ltb, eqb}
 use borrow.Author.Tests.{ne-eqb, le-ltb}
 use Rattle.graph.specs.Sums.{takesNew}
-use Rattle.graph.specs.Steps.{byGraph, masked, unmasked, readBase, sums, writeBase}
+use Rattle.graph.specs.Steps.{byGraph, masked, readBase, sums, writeBase}
 
 pub data Graph : ℕ → Type 0 where
   plain : Graph 1
@@ -40,6 +40,18 @@ byGraph-above g a1 a2 a3 a4 a5 a6 other h =
       ne-eqb g 5 (λ q. omega arith),
       ne-eqb g 6 (λ q. omega arith),
     )
+
+-- one thing for every graph and beyond
+pub byGraph-same {ℓ} : {A : Type ℓ} (g : ℕ) (a : A) → Graph g → byGraph g a a a a a a a ≡ a
+unfolding byGraph
+byGraph-same _ a plain = refl
+byGraph-same _ a degraded = refl
+byGraph-same _ a small = refl
+byGraph-same _ a reconstruct = refl
+byGraph-same _ a large = refl
+byGraph-same _ a failed = refl
+byGraph-same _ a nought = refl
+byGraph-same g a (above h) = byGraph-above g a a a a a a a h
 
 -- the positions that are to be read, by graph
 pub reads-late : (n g mask p : ℕ) → Graph g → ¬ (g ≡ 1) → ¬ (g ≡ 2) → ¬ (g ≡ 3) → ¬ (g ≡ 4) → readBase n g mask p ≡ false

@@ -1,22 +1,21 @@
 -- A done set is closed where six tests on whole sets hold.
 -- Assumes nothing.
 use Prim.Native.Nat.{ℕ, _+_, _-_, _*_, _/_, _^_, _≤_, _<_}
-use mathlib.Core.Bool.{Bool, true, false, _&&_, and-true}
-use mathlib.Core.Logic.{_⊎_, inl, inr, ⊎-elim}
+use mathlib.Core.Bool.{Bool, true, false, and-true}
+use mathlib.Core.Logic.{_⊎_, ⊎-elim}
 use mathlib.Core.Path.{_≡_, refl, sym, ap, _∙_}
 use native.Mathlib.Nat.{lt-of-le-of-lt}
 use native.Mathlib.Omega.{arith}
 use borrow.Author.Tests.{eqb-true, eq-eqb, ne-eqb, ltb-true, ltb-false}
 use lib.Bits.{bitAnd, and-le-r}
-use lib.Dec.{ltb, eqb}
+use lib.Dec.{ltb}
 use lib.Pow.{ones-lt, shr-shr}
 use Rattle.terms.proofs.Bits.{bit-none, bit-full, bit-and, bit-setOf, setOf-bound, subset-elim, subset-intro}
 use Rattle.terms.proofs.Rows.{truth, true≢false}
 use Rattle.terms.specs.Sets.{bit, setOf}
-use Rattle.graph.specs.Asked.{fewUnits, stepSet}
+use Rattle.graph.specs.Asked.{stepSet}
 use Rattle.graph.specs.Order.{anyRead, readOf, isSum, before, cleared, closed}
-use Rattle.graph.specs.Steps.{Step, rd, xr, wr, stepOf, stepNumbers, byGraph, reads, member}
-use Rattle.graph.proofs.Few.{few}
+use Rattle.graph.specs.Steps.{Step, rd, xr, wr, stepOf, stepNumbers, byGraph, reads}
 use Rattle.graph.proofs.Forerunners.{any-read-at, any-read-past, sum-at, read-at, bit-steps}
 use Rattle.graph.proofs.Graphs.{graph}
 use Rattle.graph.proofs.Laws.{cleared-elim, cleared-intro, closed-bound, closed-elim, closed-intro, before-unit-write}
@@ -171,10 +170,8 @@ module _ (n g mask x done : ℕ) where
       ))
 
   -- a test that holds exactly where the six do is the answer
-  pub decided : (t : Bool) → n ≤ 7 → (t ≡ true → InOrder n g mask x done) → (InOrder n g mask x done → t ≡ true)
-      → t ≡ (fewUnits n && closed n g mask x done)
-  decided t h f b =
-      rw (few n h) (both-ways t (closed n g mask x done) (λ e. closed-of (f e)) (λ e. b (in-order e)))
+  pub decided : (t : Bool) → (t ≡ true → InOrder n g mask x done) → (InOrder n g mask x done → t ≡ true) → t ≡ closed n g mask x done
+  decided t f b = both-ways t (closed n g mask x done) (λ e. closed-of (f e)) (λ e. b (in-order e))
 
-  pub refused : n ≤ 7 → (InOrder n g mask x done → ⊥) → false ≡ (fewUnits n && closed n g mask x done)
-  refused h f = decided false h (λ e. true≢false (sym e)) (λ o. absurd (f o))
+  pub refused : (InOrder n g mask x done → ⊥) → false ≡ closed n g mask x done
+  refused f = decided false (λ e. true≢false (sym e)) (λ o. absurd (f o))

@@ -1,21 +1,21 @@
 -- Laws of the graphs' order, for any number of units: what is known of a done set that is closed under forerunners, how it grows, and that an
 -- unfinished one has a ready step.
 -- Assumes nothing.
-use Prim.Native.Nat.{ℕ, zero, suc, _+_, _-_, _*_, _^_, _≤_, _<_}
-use mathlib.Core.Bool.{Bool, true, false, cond, not, _&&_, _||_}
+use Prim.Native.Nat.{ℕ, zero, suc, _-_, _^_, _<_}
+use mathlib.Core.Bool.{Bool, true, false, not, _&&_, _||_}
 use mathlib.Core.Logic.{_⊎_, inl, inr, ⊎-elim}
 use mathlib.Core.Path.{_≡_, refl, sym, ap, _∙_}
 use native.Mathlib.Nat.{not-suc-le-zero}
 use native.Mathlib.Omega.{arith}
-use borrow.Author.Tests.{ltb-true, ltb-false, lt-ltb, le-ltb, leb-true, leb-false, le-leb, lt-leb, eqb-true, eqb-false, eq-eqb, ne-eqb, not-true, not-false}
-use lib.Dec.{ltb, leb, eqb}
+use borrow.Author.Tests.{ltb-true, ltb-false, lt-ltb, le-ltb, eqb-true, eqb-false, ne-eqb, not-true, not-false}
+use lib.Dec.{ltb, eqb}
 use lib.Pow.{pow-pos}
 use Rattle.terms.proofs.Bits.{bit-none, bit-add-other, add-bound}
-use Rattle.terms.proofs.Rows.{true≢false, and-left, and-right, and-both, and-false-cases, or-false-left, or-false-right, or-not-elim, or-not-intro, truth}
+use Rattle.terms.proofs.Rows.{true≢false, and-left, and-right, and-both, or-false-left, or-false-right, or-not-elim, or-not-intro, truth}
 use Rattle.terms.proofs.Sets.{allBelow-elim, allBelow-intro, allBelow-fails}
-use Rattle.terms.specs.Sets.{bit, allBelow}
+use Rattle.terms.specs.Sets.{bit}
 use Rattle.graph.specs.Order.{anyRead, readOf, isSum, before, cleared, ready, after, complete, closed}
-use Rattle.graph.specs.Steps.{Step, rd, xr, wr, nil, stepOf, numberOf, stepNumbers, byGraph, masked, reads, sums, writes, member}
+use Rattle.graph.specs.Steps.{Step, rd, xr, wr, nil, stepOf, stepNumbers, byGraph, masked, reads, sums, writes, member}
 use Rattle.graph.proofs.Graphs.{Graph, plain, degraded, small, reconstruct, large, failed, nought, above, graph, byGraph-above}
 use Rattle.graph.proofs.Numbers.{stepOf-above}
 

@@ -9,3 +9,6 @@ pub mod Rules
 pub mod Positions
 pub mod Forerunners
 pub mod InOrder
+pub mod Judging
+pub mod Sizes
+pub mod Members

@@ -1,18 +1,17 @@
 -- The sets of positions that a graph reads and writes, as the code makes them from the mask.
 -- Assumes nothing.
 use Prim.Native.Nat.{ℕ, _+_, _-_, _*_, _%_, _^_, _≤_, _<_}
-use mathlib.Core.Bool.{Bool, cond, true, false, not, _&&_, _||_, and-true, or-true, or-false}
+use mathlib.Core.Bool.{Bool, cond, false, not, _||_, and-true, or-true, or-false}
 use mathlib.Core.Logic.{_⊎_, ⊎-elim}
 use mathlib.Core.Path.{_≡_, refl, sym, ap, _∙_}
 use native.Mathlib.Nat.{lt-of-le-of-lt, lt-of-lt-of-le}
 use native.Mathlib.Omega.{arith}
 use lib.Arith.{digits-lt}
 use lib.Bits.{bitAnd, and-le-r}
-use lib.Dec.{ltb, leb, eqb}
+use lib.Dec.{leb, eqb}
 use lib.Pow.{pow-pos, pow-lt, pow-mono, pow-add, shl-exact, ones-lt}
 use borrow.Author.Tests.{eq-eqb, ne-eqb, le-leb, lt-ltb, le-ltb}
-use Rattle.terms.proofs.Bits.{bit-beyond, bit-full, bit-rest, bit-low, bit-high, bit-and, bit-add-same, bit-add-other, bit-setOf, setOf-bound, is-setOf, add-bound}
-use Rattle.terms.proofs.Rows.{truth}
+use Rattle.terms.proofs.Bits.{bit-beyond, bit-full, bit-rest, bit-low, bit-high, bit-and, bit-add-same, bit-add-other, bit-setOf, setOf-bound, is-setOf}
 use Rattle.terms.proofs.Sets.{below-suc}
 use Rattle.terms.specs.Sets.{bit, setOf}
 use Rattle.graph.specs.Asked.{stepSet}
@@ -144,14 +143,18 @@ module _ (n g mask x : ℕ) where
   steps-are =
       is-setOf (stepNumbers n) all (λ k. member n g mask x (stepOf n k)) all-bound (λ k h. all-at k (numbered n k h))
 
-  -- with at most 7 units all fit a word
-  pub low-fits : n ≤ 7 → low n g mask x < 2 ^ 9
-  low-fits h = lt-of-lt-of-le low-bound (pow-mono {i = n + 2} {j = 9} (omega arith))
+-- ---- with at most 7 units all fit a word
 
-  pub writes-fit : n ≤ 7 → setOf (n + 1) (writes n g mask x) * 2 ^ (n + 2) % 18446744073709551616
-      ≡ setOf (n + 1) (writes n g mask x) * 2 ^ (n + 2)
-  writes-fit h = shl-exact (n + 1) (n + 2) 64 (setOf-bound (n + 1) (writes n g mask x)) (omega arith)
+module _ (n r w : ℕ) (b : Bool) (few : n ≤ 7) where
+  pub joined-low : r < 2 ^ (n + 1) → r + cond b (2 ^ (n + 1)) 0 < 2 ^ 9
+  joined-low h =
+      lt-of-lt-of-le (flag-bound (n + 1) r b h) (pow-mono {i = n + 1 + 1} {j = 9} (omega arith))
 
-  pub steps-fit : n ≤ 7 → setOf (n + 1) (writes n g mask x) * 2 ^ (n + 2) + low n g mask x < 2 ^ 17
-  unfolding all
-  steps-fit h = lt-of-lt-of-le all-bound (pow-mono {i = stepNumbers n} {j = 17} (omega arith))
+  pub joined-fits : r < 2 ^ (n + 1) → w < 2 ^ (n + 1) → w * 2 ^ (n + 2) + (r + cond b (2 ^ (n + 1)) 0) < 2 ^ 17
+  joined-fits h k =
+      let e : n + 1 + 1 ≡ n + 2 = omega arith in
+      lt-of-lt-of-le (rw (← pow-add 2 (n + 1) (n + 2)) at (digits-lt k (rw e at (flag-bound (n + 1) r b h))))
+      (pow-mono {i = n + 1 + (n + 2)} {j = 17} (omega arith))
+
+  pub joined-shift : w < 2 ^ (n + 1) → w * 2 ^ (n + 2) % 18446744073709551616 ≡ w * 2 ^ (n + 2)
+  joined-shift k = shl-exact (n + 1) (n + 2) 64 k (omega arith)

@@ -2,16 +2,16 @@
 -- Assumes nothing.
 use Prim.Native.Nat.{ℕ, _+_, _*_, _^_, _≤_, _<_}
 use mathlib.Core.Bool.{Bool, true, false, cond, not, _&&_, _||_}
-use mathlib.Core.Logic.{_⊎_, inl, inr, ⊎-elim}
+use mathlib.Core.Logic.{_⊎_, ⊎-elim}
 use mathlib.Core.Path.{_≡_, refl, sym, ap, _∙_}
 use native.Mathlib.Nat.{lt-of-le-of-lt, lt-of-lt-of-le, zero-add, add-zero, mul-comm}
 use native.Mathlib.Omega.{arith}
 use lib.Bits.{bitAnd, and-le-l}
 use lib.Dec.{leb, eqb}
 use lib.Pow.{pow-pos, pow-mono, pow-lt, pow-add}
-use borrow.Author.Tests.{eqb-true, eqb-false, eq-eqb, ne-eqb, leb-true, leb-false, not-true, not-false}
+use borrow.Author.Tests.{eqb-true, eqb-false, eq-eqb, leb-true, leb-false, not-true, not-false}
 use Rattle.terms.proofs.Bits.{bit-none, bit-ext, bit-beyond, bit-add-same, bit-add-other, bit-setOf, setOf-bound, is-setOf, bit-and, subset-elim, subset-intro}
-use Rattle.terms.proofs.Rows.{truth, true≢false, or-not-elim, or-not-intro}
+use Rattle.terms.proofs.Rows.{truth, or-not-elim, or-not-intro}
 use Rattle.terms.proofs.Sets.{allBelow-elim, allBelow-intro, allBelow-fails}
 use Rattle.terms.specs.Sets.{bit, setOf, allBelow}
 

@@ -1,7 +1,7 @@
 -- Document 01, "Steps and what must come before": what the exclusive or takes, and where it goes.
 -- Assumes nothing.
 use Prim.Native.Nat.{ℕ}
-use mathlib.Core.Bool.{Bool, true, false, cond}
+use mathlib.Core.Bool.{Bool, false}
 use lib.Dec.{eqb}
 use Rattle.graph.specs.Steps.{byGraph, reads, masked}
 

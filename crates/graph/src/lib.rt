@@ -3,9 +3,12 @@
 // Assumes nothing.
 pub use choice::choose;
 pub use choice::has;
+pub use order::Judged;
 pub use order::after;
-pub use order::closed;
+pub use order::all_steps;
+pub use order::before;
 pub use order::complete;
+pub use order::judge;
 pub use order::ready;
 pub use steps::Action;
 pub use steps::step_of;

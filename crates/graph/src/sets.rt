@@ -2,7 +2,7 @@
 // units are few, which the functions that ask them test.
 ghost use mathlib.Core.Bool.{cond, not, _||_};
 ghost use mathlib.Core.Path.{_≡_};
-ghost use Prim.Native.Nat.{_+_, _-_, _^_, _≤_};
+ghost use Prim.Native.Nat.{_+_, _-_, _*_, _^_, _≤_, _<_};
 ghost use lib.Dec.{eqb};
 ghost use Rattle.terms.specs.Sets.{setOf};
 ghost use Rattle.graph.specs.Asked.{stepSet};
@@ -105,7 +105,7 @@ pub(crate) fn read_set(n: u64, g: u64, mask: u64, x: u64) -> u64
 }
 
 // The positions that it writes.
-fn write_set(n: u64, g: u64, mask: u64, x: u64) -> u64
+pub(crate) fn write_set(n: u64, g: u64, mask: u64, x: u64) -> u64
     requires { ⌜ n ≤ 7 ⌝ }
     ensures { λ r. ⌜ r ≡ setOf (n + 1) (writes n g mask x) ⌝ }
 {
@@ -133,11 +133,19 @@ fn sum_set(n: u64, g: u64) -> u64
     0
 }
 
+// Reads, the exclusive or where there is one, and writes, as one set of step numbers.
+pub(crate) fn join(n: u64, g: u64, reads: u64, writes: u64) -> u64
+    requires { ⌜ (n ≤ 7) × (reads < 2 ^ (n + 1)) × (writes < 2 ^ (n + 1)) ⌝ }
+    ensures { λ r. ⌜ r ≡ writes * 2 ^ (n + 2) + (reads + cond (sums g) (2 ^ (n + 1)) 0) ⌝ }
+{
+    let low = reads + sum_set(n, g);
+    (writes << (n + 2)) + low
+}
+
 // The steps of the graph.
 pub(crate) fn step_set(n: u64, g: u64, mask: u64, x: u64) -> u64
     requires { ⌜ n ≤ 7 ⌝ }
     ensures { λ r. ⌜ r ≡ stepSet n g mask x ⌝ }
 {
-    let low = read_set(n, g, mask, x) + sum_set(n, g);
-    (write_set(n, g, mask, x) << (n + 2)) + low
+    join(n, g, read_set(n, g, mask, x), write_set(n, g, mask, x))
 }

@@ -1,16 +1,16 @@
 -- No two open records share a stripe: taken apart and put together.
 -- Assumes nothing.
-use Prim.Native.Nat.{ℕ, _≤_, _<_}
-use mathlib.Core.Bool.{Bool, true, false, not, _&&_, _||_}
+use Prim.Native.Nat.{ℕ, _<_}
+use mathlib.Core.Bool.{true, false, not, _||_}
 use mathlib.Core.Bool as Booleans
 use mathlib.Core.List.{List}
-use mathlib.Core.Logic.{_⊎_, inl, inr, ⊎-elim}
-use mathlib.Core.Path.{_≡_, refl, sym, ap, _∙_}
+use mathlib.Core.Logic.{_⊎_, ⊎-elim}
+use mathlib.Core.Path.{_≡_, refl, sym, _∙_}
 use native.Mathlib.Omega.{arith}
 use borrow.Author.Tests.{ltb-true, ltb-false, eqb-true, eqb-false, eq-eqb, not-true}
 use lib.Dec.{ltb, eqb}
 use lib.ListN.{length, getD}
-use Rattle.terms.proofs.Rows.{truth, true≢false, or-cases}
+use Rattle.terms.proofs.Rows.{truth, or-cases}
 use Rattle.terms.proofs.Sets.{allBelow-elim, allBelow-intro}
 use Rattle.terms.specs.Sets.{allBelow}
 use Rattle.graph.proofs.Rules.{both-ways}

@@ -1,24 +1,24 @@
 -- A table by value, of eight records and a length, against the list of its records: past the eighth they are free.
 -- Assumes nothing.
-use Prim.Native.Nat.{ℕ, _+_, _≤_, _<_, min}
-use mathlib.Core.Bool.{Bool, true, false, not, _&&_, _||_}
+use Prim.Native.Nat.{ℕ, _≤_, _<_, min}
+use mathlib.Core.Bool.{Bool, true, not}
 use mathlib.Core.List.{List, map}
-use mathlib.Core.Logic.{_⊎_, inl, inr, ⊎-elim}
+use mathlib.Core.Logic.{_⊎_, ⊎-elim}
 use mathlib.Core.Path.{_≡_, refl, sym, ap, _∙_}
 use native.Mathlib.Omega.{arith}
-use borrow.Author.Tests.{ltb-true, ltb-false, eqb-true, eqb-false, eq-eqb, not-true, not-false}
-use lib.Dec.{ltb, eqb}
+use borrow.Author.Tests.{ltb-true, ltb-false, not-true}
+use lib.Dec.{ltb}
 use lib.ListN.{length, getD, length-map, List·getD-eq-default}
 use Rattle.terms.proofs.Lists.{length-tabulate, getD-tabulate, every-elim, every-intro}
-use Rattle.terms.proofs.Rows.{truth, true≢false, or-cases, and-left, and-right, and-both}
-use Rattle.terms.proofs.Sets.{allBelow-elim, allBelow-intro, allBelow-cong, lowest-is, lowest-none, lowest-le, lowest-holds, lowest-before, lowest-cong}
-use Rattle.terms.specs.Lists.{tabulate, every}
+use Rattle.terms.proofs.Rows.{truth}
+use Rattle.terms.proofs.Sets.{allBelow-elim, allBelow-intro, allBelow-cong, lowest-is, lowest-le, lowest-holds, lowest-before, lowest-cong}
+use Rattle.terms.specs.Lists.{every}
 use Rattle.terms.specs.Sets.{allBelow, lowest}
 use Rattle.graph.proofs.Rules.{both-ways}
 use Rattle.record.proofs.Clashes.{clash-free, apart-elim, apart-intro}
 use Rattle.geometry.specs.declared.State.{State}
 use Rattle.record.specs.Asked.{fewIn, soundRecordIn}
-use Rattle.record.specs.Life.{free, isFree, isOpen, recordsOf}
+use Rattle.record.specs.Life.{free, isFree, recordsOf}
 use Rattle.record.specs.Sound.{allZero, soundRecord, clash, apart, holds, held, lowestFree}
 use Rattle.record.specs.declared.Record.{Record}
 use Rattle.record.specs.declared.Table.{Table}

@@ -1,93 +1,37 @@
--- The stripes that open records hold, as they are filled in one by one, and as they say which stripes are held.
+-- The stripes that open records hold, and which stripes are held by them.
 -- Assumes nothing.
-use Prim.Native.Nat.{ℕ, _+_, _≤_, _<_, min}
-use mathlib.Core.Bool.{Bool, true, false, cond, not, _&&_}
-use mathlib.Core.List.{List, [], _∷_}
+use Prim.Native.Nat.{ℕ, _<_, min}
+use mathlib.Core.Bool.{true, not}
 use mathlib.Core.Logic.{_⊎_, ⊎-elim}
 use mathlib.Core.Path.{_≡_, refl, sym, ap, _∙_}
 use native.Mathlib.Omega.{arith}
-use borrow.Author.Tests.{ltb-true, ltb-false, lt-ltb, le-ltb, eqb-true, eqb-false, eq-eqb, ne-eqb}
+use borrow.Author.Tests.{ltb-true, ltb-false, ne-eqb}
 use lib.Dec.{ltb, eqb}
-use lib.ListN.{length, getD, set, length-set}
-use lib.Seq.{getD-set-same, getD-set-other, ext-getD}
-use Rattle.terms.proofs.Lists.{length-tabulate, getD-tabulate, is-tabulate, tabulate-cong, every-elim, every-intro}
+use lib.ListN.{length, getD}
+use Rattle.terms.proofs.Lists.{length-tabulate, getD-tabulate, every-elim, every-intro}
 use Rattle.terms.proofs.Rows.{truth}
-use Rattle.terms.specs.Lists.{tabulate, every}
+use Rattle.terms.specs.Lists.{every}
 use Rattle.graph.proofs.Rules.{both-ways}
 use Rattle.record.proofs.Eight.{at-below, at-past, past-eight, length-records}
+use Rattle.record.proofs.Filling.{filling, filling-is}
 use Rattle.record.specs.Asked.{noStripe, heldStripe, heldStripes}
 use Rattle.record.specs.Life.{free, isOpen, recordsOf}
 use Rattle.record.specs.Sound.{holds, held}
 use Rattle.record.specs.declared.Record.{Record}
 use Rattle.record.specs.declared.Table.{Table}
 
--- the stripes with those of the first i records filled in
-pub entry : List Record → ℕ → ℕ → ℕ
-entry records i k = cond (ltb k i) (heldStripe (getD records k free)) noStripe
-
-unfoldable pub filling : List Record → ℕ → List ℕ
-unfolding entry
-filling records i = tabulate 8 (entry records i)
-
-pub length-filling : (records : List Record) (i : ℕ) → length (filling records i) ≡ 8
-unfolding filling
-length-filling records i = length-tabulate 8 (entry records i)
-
-pub filling-none : (records : List Record) → 1024 ∷ 1024 ∷ 1024 ∷ 1024 ∷ 1024 ∷ 1024 ∷ 1024 ∷ 1024 ∷ [] ≡ filling records 0
-unfolding filling tabulate
-filling-none records = refl
-
-entry-at : (records : List Record) (i k : ℕ) → k < i → entry records i k ≡ heldStripe (getD records k free)
-unfolding entry
-entry-at records i k h = rw (lt-ltb k i h)
-
-entry-past : (records : List Record) (i k : ℕ) → i ≤ k → entry records i k ≡ noStripe
-unfolding entry
-entry-past records i k h = rw (le-ltb k i h)
-
-pub filling-more : (records : List Record) (i : ℕ) → i < 8
-    → set (filling records i) i (heldStripe (getD records i free)) ≡ filling records (i + 1)
-unfolding filling
-filling-more records i h =
-    is-tabulate (set (tabulate 8 (entry records i)) i (heldStripe (getD records i free))) 8 (entry records (i + 1)) 0
-    (length-set (tabulate 8 (entry records i)) i (heldStripe (getD records i free)) ∙ length-tabulate 8 (entry records i))
-    (λ k l. ⊎-elim (λ e. here k (eqb-true k i e)) (λ e. other k l (eqb-false k i e)) (truth (eqb k i)))
-  where
-    at : ℕ → ℕ
-    at k = getD (set (tabulate 8 (entry records i)) i (heldStripe (getD records i free))) k 0
-
-    here : (k : ℕ) → k ≡ i → at k ≡ entry records (i + 1) k
-    here k q =
-        ap at q
-        ∙ getD-set-same (tabulate 8 (entry records i)) i (heldStripe (getD records i free)) 0 (rw (length-tabulate 8 (entry records i)) h)
-        ∙ sym (ap (entry records (i + 1)) q ∙ entry-at records (i + 1) i (omega arith))
-
-    other : (k : ℕ) → k < 8 → ¬ (k ≡ i) → at k ≡ entry records (i + 1) k
-    other k l n =
-        getD-set-other (tabulate 8 (entry records i)) i k (heldStripe (getD records i free)) 0 n
-        ∙ getD-tabulate 8 (entry records i) k 0 l
-        ∙ ⊎-elim (λ a. let b = ltb-true k i a in entry-at records i k b ∙ sym (entry-at records (i + 1) k (omega arith)))
-        (λ a. let b = ltb-false k i a in entry-past records i k b ∙ sym (entry-past records (i + 1) k (omega arith)))
-        (truth (ltb k i))
-
 -- the free record holds none
 held-free : heldStripe free ≡ noStripe
 unfolding heldStripe
 held-free = refl
 
-pub filling-all : (t : Table) → filling (t .records) (min (t .len) 8) ≡ heldStripes t
-unfolding filling heldStripes
-filling-all t =
-    tabulate-cong 8 (entry (t .records) (min (t .len) 8)) (λ i. heldStripe (getD (recordsOf t) i free))
-    (λ k h.
-    ⊎-elim
-    (λ a.
-    let b = ltb-true k (t .len) a in
-    entry-at (t .records) (min (t .len) 8) k (omega arith) ∙ ap heldStripe (sym (at-below t k b)))
-    (λ a.
-    let b = ltb-false k (t .len) a in
-    entry-past (t .records) (min (t .len) 8) k (omega arith) ∙ sym (ap heldStripe (at-past t k b) ∙ held-free))
-    (truth (ltb k (t .len))))
+-- the stripes of the records that there are, filled in
+pub filled-stripes : (t : Table) → filling 8 (λ i. heldStripe (getD (t .records) i free)) noStripe (min (t .len) 8) ≡ heldStripes t
+unfolding heldStripes
+filled-stripes t =
+    filling-is 8 (min (t .len) 8) (λ i. heldStripe (getD (t .records) i free)) noStripe (λ i. heldStripe (getD (recordsOf t) i free))
+    (λ k l h. ap heldStripe (sym (at-below t k (omega arith))))
+    (λ k l h. sym (ap heldStripe (at-past t k (omega arith)) ∙ held-free))
 
 -- a record holds the stripe where that is the stripe that it holds
 holds-stripe : (r : Record) (s : ℕ) → s < noStripe → eqb (heldStripe r) s ≡ holds s r

@@ -5,4 +5,6 @@ pub mod Zero
 pub mod Loops
 pub mod Clashes
 pub mod Eight
+pub mod Filling
 pub mod Held
+pub mod Soundness

@@ -1,20 +1,19 @@
 -- What is known where a step can be marked done and counted.
 -- Assumes nothing.
-use Prim.Native.Nat.{ℕ, _+_, _^_, _<_, _≤_}
-use mathlib.Core.Bool.{Bool, true, false, cond, not, _&&_}
-use mathlib.Core.Path.{_≡_, refl, sym, ap, _∙_}
+use Prim.Native.Nat.{ℕ, _+_}
+use mathlib.Core.Bool.{Bool, true, false, not, _&&_}
+use mathlib.Core.Path.{_≡_}
 use native.Mathlib.Omega.{arith}
-use borrow.Author.Tests.{ltb-true, lt-ltb, not-true}
+use borrow.Author.Tests.{ltb-true, not-true}
 use lib.Dec.{ltb}
 use mir.Syntax.{w64}
 use mir.Val.{Fits}
-use Rattle.terms.proofs.Rows.{and-left, and-right, and-both}
+use Rattle.terms.proofs.Rows.{and-left, and-right}
 use Rattle.terms.specs.Sets.{bit}
 use Rattle.geometry.specs.declared.State.{State}
-use Rattle.graph.specs.Asked.{fewUnits, afterOr}
+use Rattle.graph.specs.Asked.{afterOr}
 use Rattle.graph.specs.Order.{after}
 use Rattle.record.specs.Asked.{fewIn, canCount, canStep}
-use Rattle.record.specs.Life.{unitsOf}
 use Rattle.record.specs.declared.Record.{Record}
 
 pub count-fits : (r : Record) → canCount r ≡ true → Fits w64 (r .count + 1)

@@ -1,6 +1,5 @@
 -- Two records are equal where their numbers are.
 -- Assumes nothing.
-use Prim.Native.Nat.{ℕ}
 use mathlib.Core.Path.{_≡_}
 use Rattle.record.specs.declared.Record.{Record}
 

@@ -2,7 +2,7 @@
 ghost use mathlib.Core.Bool.{cond};
 ghost use mathlib.Core.Path.{_≡_};
 ghost use Rattle.record.specs.Asked.{readyIn, canCount, canStep, steppedOr, afreshOr};
-ghost use Rattle.record.specs.Life.{free, isWrite, unitsOf, chosenAt, admitted};
+ghost use Rattle.record.specs.Life.{free, unitsOf, chosenAt, admitted};
 use crate::Record;
 use geometry::State;
 

@@ -1,14 +1,18 @@
 // When a record is sound, clause by clause.
-ghost use mathlib.Core.Bool.{Bool, cond, not, _&&_};
+ghost use mathlib.Core.Bool.{cond, not, _&&_};
 ghost use mathlib.Core.Path.{_≡_};
 ghost use Prim.Native.Nat.{_+_, _*_, _≤_};
-ghost use lib.Dec.{leb, eqb};
+ghost use lib.Dec.{leb};
 ghost use Rattle.record.specs.Asked.{soundRecordIn, heldStripe};
 ghost use Rattle.record.specs.Sound.{allZero, legalMask, legalRecord, legalChosen, clash, holds};
 use crate::Record;
 use crate::life::units;
 use geometry::NONE;
 use geometry::State;
+use graph::Judged;
+
+// A number that is no stripe's.
+pub(crate) const NO_STRIPE: u64 = 1024;
 
 // A legal mask of n units: not zero, and no bit at n or above.
 pub fn legal_mask(n: u64, mask: u64) -> bool
@@ -112,11 +116,13 @@ impl Record {
         if self.graph != graph::choose(n, self.write == 1, self.mask, x) {
             return false;
         }
-        if !graph::closed(n, self.graph, self.mask, x, self.done) {
-            return false;
+        let open = self.phase == 1;
+        let judged = graph::judge(n, self.graph, self.mask, x, self.done);
+        match judged {
+            Judged::Wrong => false,
+            Judged::Wanting => right_count(n, open, false, self.count),
+            Judged::Whole => right_count(n, open, true, self.count),
         }
-        let lacks_none = graph::complete(n, self.graph, self.mask, x, self.done);
-        right_count(n, self.phase == 1, lacks_none, self.count)
     }
 
     // The two records are open on one stripe.
@@ -141,6 +147,7 @@ impl Record {
         }
         self.stripe == stripe
     }
+
     // The stripe that the record holds, or a number that is no stripe's.
     pub(crate) fn held_stripe(self) -> u64
         ensures { λ r. ⌜ r ≡ heldStripe self ⌝ }
@@ -148,6 +155,6 @@ impl Record {
         if self.phase == 1 {
             return self.stripe;
         }
-        1024
+        NO_STRIPE
     }
 }

@@ -1,7 +1,7 @@
 -- Sets of small numbers as the bits of a number, and what holds of all numbers below a bound, or of the lowest.
 -- Assumes nothing.
 use Prim.Native.Nat.{ℕ, zero, suc, _+_, _/_, _%_, _^_}
-use mathlib.Core.Bool.{Bool, true, false, cond, _&&_}
+use mathlib.Core.Bool.{Bool, true, cond, _&&_}
 use lib.Bits.{bitXor}
 use lib.Dec.{leb, eqb}
 

@@ -125,7 +125,7 @@ impl Plan {
     }
 
     /// The steps that must come before a step of the graph.
-    fn before(&self, step: u64) -> u64 {
+    pub fn before(&self, step: u64) -> u64 {
         match self.action(step) {
             Action::Read(_) => 0,
             Action::Sum => self.reads,

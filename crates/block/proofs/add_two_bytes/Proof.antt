@@ -7,7 +7,6 @@ use native.Mathlib.Omega.{arith}
 use borrow.Author.Needs.{needs}
 use lib.Bits.{bitXor}
 use lib.ListN.{length, getD, length-set, List·getD-eq-default}
-use Rattle.block.specs.Blocks.{added}
 use Rattle.block.proofs.Xor.{xor-zero}
 use Rattle.block.proofs.Blocks.{added-two}
 use Rattle.block.proofs.Turns.{turned, turned-none, turned-next, turned-store, turned-all}

@@ -4,7 +4,7 @@ use Prim.Native.Nat.{_+_, _-_, _≤_}
 use mathlib.Core.Path.{_≡_, sym}
 use native.Mathlib.Omega.{arith}
 use borrow.Author.Needs.{needs}
-use Rattle.block.specs.Blocks.{added, summed}
+use Rattle.block.specs.Blocks.{summed}
 use Rattle.block.proofs.Blocks.{summed-none, summed-more, summed-two}
 use Rattle.parity.specs.Parity.{cell}
 use Rattle.parity.proofs.add_cards.Statement.{statement}

@@ -1,6 +1,6 @@
 -- `array::admits::admit_refusal` meets its contract: each `return` is the first row whose test holds.
 -- Assumes nothing.
-use mathlib.Core.Path.{_≡_, sym, _∙_}
+use mathlib.Core.Path.{sym, _∙_}
 use native.Mathlib.Omega.{arith}
 use borrow.Author.Needs.{needs}
 use denote.Ref.{now}

@@ -1,18 +1,11 @@
 -- `array::admits::keep_units` meets its contract: after u turns the units below u are kept.
 -- Assumes nothing.
-use Prim.Native.Nat.{ℕ, _+_, _-_, _*_, _≤_, _<_}
-use mathlib.Core.Bool.{Bool, true, false}
-use mathlib.Core.List.{List}
+use Prim.Native.Nat.{_-_}
 use mathlib.Core.Logic.{⊎-elim}
-use mathlib.Core.Path.{_≡_, refl, sym, ap, _∙_}
 use native.Mathlib.Omega.{arith}
 use borrow.Author.Needs.{needs}
-use borrow.Author.Tests.{eq-eqb, ne-eqb}
 use denote.Ref.{now}
-use lib.ListN.{length}
-use Rattle.terms.specs.Sets.{bit}
 use Rattle.terms.proofs.Bits.{bit-odd, bit-even}
-use Rattle.geometry.specs.declared.State.{State}
 use Rattle.array.specs.Admission.{keepUnit, keepUnits}
 use Rattle.array.proofs.Turns.{Turned, turned-none, turned-all}
 use Rattle.array.proofs.Units.{keeping-bounds, keep-room, keep-more, keep-pass}

@@ -1,6 +1,5 @@
 -- `array::admits::payload_wrong` meets its contract: write or not picks the size.
 -- Assumes nothing.
-use mathlib.Core.Path.{refl}
 use borrow.Author.Needs.{needs}
 use borrow.Author.Tests.{not-true, not-false}
 use Rattle.array.proofs.admits.payload_wrong.Statement.{statement}

@@ -1,14 +1,13 @@
 -- `array::collects::collect` meets its contract: refused, nothing changes; accepted, a read's units are handed over and the record freed.
 -- Assumes nothing.
 use mathlib.Core.Logic.{⊎-elim}
-use mathlib.Core.Path.{_≡_, refl, sym, ap, _∙_}
+use mathlib.Core.Path.{sym, ap, _∙_}
 use borrow.Author.Needs.{needs}
 use borrow.Author.Tests.{eq-eqb, ne-eqb}
 use denote.Ref.{now}
 use lib.ListN.{length}
 use Rattle.record.specs.Life.{recordsOf}
 use Rattle.record.specs.declared.Record.{Record}
-use Rattle.array.specs.Premises.{Keeping}
 use Rattle.array.proofs.Answered.{collection-refused, collection-accepted}
 use Rattle.array.proofs.Keeping.{collect-keeping}
 use Rattle.array.proofs.Lending.{length-records}

@@ -5,7 +5,6 @@ use native.Mathlib.Omega.{arith}
 use borrow.Author.Needs.{needs}
 use denote.Ref.{now}
 use lib.ListN.{length}
-use Prim.Native.Nat.{ℕ}
 use Rattle.geometry.specs.Asked.{imageSizeIn}
 use Rattle.geometry.proofs.Lengths.{state-bounds}
 use Rattle.record.specs.Life.{recordsOf}

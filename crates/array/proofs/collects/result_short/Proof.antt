@@ -1,6 +1,5 @@
 -- `array::collects::result_short` meets its contract: a write asks nothing of the buffer.
 -- Assumes nothing.
-use mathlib.Core.Path.{refl}
 use borrow.Author.Needs.{needs}
 use borrow.Author.Tests.{eq-eqb, ne-eqb}
 use Rattle.array.proofs.collects.result_short.Statement.{statement}

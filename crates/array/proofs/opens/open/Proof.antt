@@ -1,19 +1,16 @@
 -- `array::opens::open` meets its contract: refusals 1 and 2, and with none out the look at all stripes.
 -- Assumes nothing.
-use Prim.Native.Nat.{ℕ}
-use mathlib.Core.Bool.{true, false}
-use mathlib.Core.List.{List}
-use mathlib.Core.Path.{_≡_, refl, sym, ap, _∙_}
+use mathlib.Core.Bool.{false}
+use mathlib.Core.Path.{_≡_, sym, ap, _∙_}
 use native.Mathlib.Omega.{arith}
 use borrow.Author.Needs.{needs}
 use denote.Ref.{now}
-use lib.ListN.{length, replicate}
+use lib.ListN.{replicate}
 use Rattle.geometry.specs.Asked.{imageSizeIn, workSizeIn}
 use Rattle.geometry.specs.Limits.{beyondState}
 use Rattle.geometry.specs.declared.State.{State}
 use Rattle.parity.specs.Parity.{passes}
-use Rattle.parity.specs.Scan.{Named, reply, lookReply, idleScanReply}
-use Rattle.parity.specs.declared.Scan.{Scan}
+use Rattle.parity.specs.Scan.{reply, lookReply, idleScanReply}
 use Rattle.array.specs.Refusals.{opened}
 use Rattle.array.proofs.Opened.{opening-refused, opening-accepted, opening-disagrees, open-beyond, open-image, open-table, open-work, open-out, open-right, open-wrong, scanned, told-right, told-wrong, told-never}
 use Rattle.array.proofs.opens.open.Statement.{statement}

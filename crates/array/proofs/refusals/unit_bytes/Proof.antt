@@ -2,7 +2,7 @@
 -- Assumes nothing.
 use native.Mathlib.Nat.{mul-le-mul}
 use native.Mathlib.Omega.{arith}
-use lib.Count.{ones, ones-le}
+use lib.Count.{ones-le}
 use mathlib.Core.Path.{refl}
 use Rattle.array.specs.Lent.{unitBytes}
 use Rattle.array.proofs.refusals.unit_bytes.Statement.{statement}

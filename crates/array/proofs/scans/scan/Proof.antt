@@ -1,6 +1,6 @@
 -- `array::scans::scan` meets its contract: rows 1 to 4, a card out, and then the look at the stripes that are not held.
 -- Assumes nothing.
-use mathlib.Core.Path.{_≡_, refl, sym, ap, _∙_}
+use mathlib.Core.Path.{_≡_, refl, ap, _∙_}
 use borrow.Author.Needs.{needs}
 use denote.Ref.{now}
 use lib.ListN.{length}

@@ -1,6 +1,6 @@
 -- `array::stepping::meets_out` meets its contract: the step's kind picks the test.
 -- Assumes nothing.
-use mathlib.Core.Path.{refl, sym, ap, _∙_}
+use mathlib.Core.Path.{sym, ap, _∙_}
 use borrow.Author.Needs.{needs}
 use Rattle.array.specs.Stepping.{meetsOut}
 use Rattle.graph.specs.Asked.{actionStep}

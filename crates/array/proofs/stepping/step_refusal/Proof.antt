@@ -1,6 +1,5 @@
 -- `array::stepping::step_refusal` meets its contract: each `return` is the first row whose test holds.
 -- Assumes nothing.
-use mathlib.Core.Path.{sym, _∙_}
 use borrow.Author.Needs.{needs}
 use denote.Ref.{now}
 use Rattle.geometry.proofs.Flags.{fails, holds}

@@ -4,7 +4,6 @@ use Prim.Native.Nat.{_-_}
 use mathlib.Core.Logic.{⊎-elim}
 use mathlib.Core.Path.{sym, _∙_}
 use borrow.Author.Needs.{needs}
-use denote.Ref.{now}
 use Rattle.geometry.specs.Asked.{writePart}
 use Rattle.graph.specs.Sums.{takesNew}
 use Rattle.array.proofs.Adding.{Added, added-none, added-more, added-pass, added-all}

@@ -1,6 +1,5 @@
 -- `carry` meets its contract: where a part has no room the first four returns leave dst, and else the copy fills the part.
 -- Assumes nothing.
-use mathlib.Core.Path.{sym}
 use native.Mathlib.Omega.{arith}
 use denote.Ref.{now}
 use Rattle.block.proofs.Carried.{carried-no-room, carried-no-source, carried-copied}

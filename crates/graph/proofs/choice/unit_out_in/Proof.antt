@@ -1,6 +1,5 @@
 -- `unit_out_in` meets its contract.
 -- Assumes nothing.
-use mathlib.Core.Path.{_∙_, sym}
 use borrow.Author.Needs.{needs}
 use borrow.Author.Tests.{lt-ltb, le-ltb}
 use Rattle.graph.specs.Choice.{unitOut, unitOutIn}

@@ -1,7 +1,6 @@
 -- `after` meets its contract.
 -- Assumes nothing.
 use mathlib.Core.Path.{_∙_, sym}
-use native.Mathlib.Omega.{arith}
 use borrow.Author.Needs.{needs}
 use borrow.Author.Tests.{lt-ltb, le-ltb}
 use Rattle.terms.proofs.Bits.{add-bound}

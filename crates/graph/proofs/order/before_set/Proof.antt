@@ -1,11 +1,10 @@
 -- `before_set` meets its contract, step by step.
 -- Assumes nothing.
-use Prim.Native.Nat.{ℕ, _+_, _-_, _*_, _<_, _≤_}
+use Prim.Native.Nat.{ℕ, _+_, _-_}
 use mathlib.Core.Path.{_≡_, _∙_, sym, ap}
 use native.Mathlib.Omega.{arith}
 use borrow.Author.Needs.{needs}
 use Rattle.graph.specs.Asked.{beforeSet}
-use Rattle.graph.specs.Steps.{stepNumbers}
 use Rattle.graph.proofs.Forerunners.{before-read, before-none, before-sum, before-parity, before-small, before-reconstruct, before-unit}
 use Rattle.graph.proofs.Graphs.{graph}
 use Rattle.graph.proofs.order.before_set.Statement.{statement}

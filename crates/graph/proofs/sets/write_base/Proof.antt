@@ -1,6 +1,6 @@
 -- `write_base` meets its contract, graph by graph.
 -- Assumes nothing.
-use Prim.Native.Nat.{_+_, _<_, _≤_}
+use Prim.Native.Nat.{_+_, _<_}
 use mathlib.Core.Bool.{_||_}
 use mathlib.Core.Path.{_∙_, sym}
 use native.Mathlib.Omega.{arith}

@@ -1,11 +1,11 @@
 -- `step_of` meets its contract. What a number lies past n and the exclusive or is taken off first, so that nothing wraps.
 -- Assumes nothing.
-use Prim.Native.Nat.{ℕ, _+_, _-_, _*_, _≤_}
+use Prim.Native.Nat.{ℕ, _+_, _-_, _≤_}
 use mathlib.Core.Path.{_≡_, sym, ap, _∙_}
 use native.Mathlib.Omega.{arith}
 use borrow.Author.Needs.{needs}
 use Rattle.graph.specs.Asked.{actionStep}
-use Rattle.graph.specs.Steps.{stepOf, stepNumbers, wr}
+use Rattle.graph.specs.Steps.{stepOf, stepNumbers}
 use Rattle.graph.proofs.Numbers.{stepOf-read, stepOf-sum, stepOf-write, stepOf-above}
 use Rattle.graph.proofs.steps.step_of.Statement.{statement}
 use Rattle.graph.proofs.steps.step_of.Tie as tie

@@ -1,7 +1,6 @@
 -- `takes_new` meets its contract.
 -- Assumes nothing.
 use mathlib.Core.Path.{_∙_, sym}
-use native.Mathlib.Omega.{arith}
 use borrow.Author.Needs.{needs}
 use Rattle.graph.proofs.Graphs.{graph, news-early, news-mid, news-late}
 use Rattle.graph.proofs.sums.takes_new.Statement.{statement}

@@ -1,10 +1,10 @@
 -- `takes_read` meets its contract, graph by graph.
 -- Assumes nothing.
-use mathlib.Core.Bool.{not, _&&_, _||_, and-true, and-false, or-true, or-false}
-use mathlib.Core.Path.{_≡_, refl, sym, ap, _∙_}
+use mathlib.Core.Bool.{and-true, and-false, or-true, or-false}
+use mathlib.Core.Path.{sym, _∙_}
 use borrow.Author.Needs.{needs}
 use borrow.Author.Tests.{eq-eqb, ne-eqb}
-use lib.Dec.{eqb, leb}
+use lib.Dec.{leb}
 use Rattle.graph.specs.Steps.{byGraph, masked, unmasked, readBase, reads}
 use Rattle.graph.proofs.Graphs.{graph, reads-late}
 use Rattle.graph.proofs.sums.takes_read.Statement.{statement}

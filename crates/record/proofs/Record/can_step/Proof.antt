@@ -1,8 +1,7 @@
 -- `can_step` meets its contract.
 -- Assumes nothing.
 use Prim.Native.Nat.{_≤_, _<_}
-use mathlib.Core.Bool.{not, _&&_, and-false}
-use mathlib.Core.Path.{_≡_, refl, sym, ap, _∙_}
+use mathlib.Core.Path.{sym, _∙_}
 use native.Mathlib.Omega.{arith}
 use borrow.Author.Needs.{needs}
 use borrow.Author.Tests.{lt-ltb, le-ltb}

@@ -1,7 +1,5 @@
 -- `clashes` meets its contract.
 -- Assumes nothing.
-use mathlib.Core.Bool.{and-false}
-use mathlib.Core.Path.{refl}
 use borrow.Author.Tests.{eq-eqb, ne-eqb}
 use Rattle.record.specs.Sound.{clash}
 use Rattle.record.proofs.Record.clashes.Statement.{statement}

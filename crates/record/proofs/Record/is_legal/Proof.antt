@@ -1,19 +1,17 @@
 -- `is_legal` meets its contract: five tests, one after the other.
 -- Assumes nothing.
-use Prim.Native.Nat.{ℕ, _≤_, _<_}
-use mathlib.Core.Bool.{Bool, true, false, _||_}
+use Prim.Native.Nat.{ℕ}
+use mathlib.Core.Bool.{true, _||_}
 use mathlib.Core.Logic.{⊎-elim}
 use mathlib.Core.Path.{_≡_, sym, _∙_, ap}
 use native.Mathlib.Omega.{arith}
 use borrow.Author.Needs.{needs}
 use borrow.Author.Tests.{eqb-false, eq-eqb, ne-eqb, lt-ltb, le-ltb, le-leb, lt-leb, not-true, not-false}
-use lib.Dec.{ltb, leb, eqb}
+use lib.Dec.{ltb, eqb}
 use Rattle.terms.proofs.Rows.{truth, within-intro}
 use Rattle.terms.specs.Sets.{within}
-use Rattle.geometry.specs.declared.State.{State}
 use Rattle.record.specs.Life.{unitsOf, isOpen, isFinished}
 use Rattle.record.specs.Sound.{legalMask, legalRecord}
-use Rattle.record.specs.declared.Record.{Record}
 use Rattle.record.proofs.Record.is_legal.Statement.{statement}
 use Rattle.record.proofs.Record.is_legal.Tie as tie
 

@@ -1,21 +1,20 @@
 -- `is_sound` meets its contract: the clauses of the definition, in their order.
 -- Assumes nothing.
-use Prim.Native.Nat.{ℕ, _+_, _*_, _≤_, _<_}
-use mathlib.Core.Bool.{Bool, true, false, cond, not, _&&_}
-use mathlib.Core.Path.{_≡_, refl, sym, _∙_, ap, ap₂}
+use Prim.Native.Nat.{ℕ}
+use mathlib.Core.Bool.{true, false}
+use mathlib.Core.Path.{_≡_, sym, _∙_, ap, ap₂}
 use native.Mathlib.Omega.{arith}
 use borrow.Author.Needs.{needs}
 use borrow.Author.Tests.{eq-eqb, ne-eqb, not-true, not-false}
-use lib.Dec.{leb, eqb}
-use Rattle.geometry.specs.declared.State.{State}
+use lib.Dec.{eqb}
 use Rattle.graph.proofs.Few.{few, many}
-use Rattle.graph.specs.Asked.{fewUnits}
+use Rattle.graph.proofs.Judging.{judged-wrong, judged-wanting, judged-whole}
+use Rattle.graph.specs.Asked.{judged}
 use Rattle.graph.specs.Choice.{choose}
-use Rattle.graph.specs.Order.{complete, closed}
+use Rattle.graph.specs.Order.{closed}
 use Rattle.record.specs.Asked.{fewIn, soundRecordIn}
-use Rattle.record.specs.Life.{isFree, isOpen, isWrite, unitsOf, chosenAt}
+use Rattle.record.specs.Life.{isFree, unitsOf, chosenAt}
 use Rattle.record.specs.Sound.{legalRecord, legalChosen, rightGraph, rightSteps, lacksNone, rightCount, soundRecord}
-use Rattle.record.specs.declared.Record.{Record}
 use Rattle.record.proofs.Record.is_sound.Statement.{statement}
 use Rattle.record.proofs.Record.is_sound.Tie as tie
 
@@ -58,43 +57,16 @@ right-graph c =
     let a = k .before .before .before .before .before .before .before .before .before .before .before .args in
     graph-test k ∙ eq-eqb (a .self .graph) (k .choose .result) (c .if5 .left)
 
-steps-test : (c : tie.After-closed)
-    → let a = c .before .before .before .before .before .before .before .before .before .before .before .before .before .before .args in
-    rightSteps (a .state) (a .self) ≡ c .closed .result
-unfolding rightSteps
-steps-test c =
-    let e = c .before .before .before .before .before .before in
+judge-test : (c : tie.After-judge)
+    → let a = c .before .before .before .before .before .before .before .before .before .before .before .before .before .before .before .args in
+    c .judge .result ≡ judged (unitsOf (a .state)) (a .self .graph) (a .self .mask) (chosenAt (a .state) (a .self)) (a .self .done)
+judge-test c =
+    let e = c .before .before .before .before .before .before .before in
     let b = e .before .before .before .before .before .before in
     let a = b .before .before .args in
-    sym
-    (c .closed .ensures
-    ∙ ap₂ (λ (n x : ℕ). fewUnits n && closed n (a .self .graph) (a .self .mask) x (a .self .done)) (b .before .units .ensures) (c .before .before .before .before .before .chosen-at .ensures)
-    ∙ rw (few-at b))
-
-whole-test : (c : tie.After-complete)
-    → let a = c .before .before .before .before .before .before .before .before .before .before .before .before .before .before .before .before .args in
-    c .complete .result ≡ lacksNone (a .state) (a .self)
-unfolding lacksNone
-whole-test c =
-    let e = c .before .before .before .before .before .before .before .before in
-    let b = e .before .before .before .before .before .before in
-    let a = b .before .before .args in
-    c .complete .ensures
-    ∙ ap₂ (λ (n x : ℕ). fewUnits n && complete n (a .self .graph) (a .self .mask) x (a .self .done)) (b .before .units .ensures) (c .before .before .before .before .before .before .before .chosen-at .ensures)
-    ∙ rw (few-at b)
-
-count-test : (c : tie.After-right-count)
-    → let a = c .before .before .before .before .before .before .before .before .before .before .before .before .before .before .before .before .before .before .args in
-    c .right-count .result ≡ rightCount (a .state) (a .self)
-unfolding rightCount
-count-test c =
-    let w = c .before .before in
-    let b = w .before .before .before .before .before .before .before .before .before .before .before .before .before .before in
-    let a = b .before .before .args in
-    c .right-count .ensures
-    ∙ ap₂ (λ (l : Bool) (n : ℕ). cond (eqb (a .self .phase) 1) (not l && leb (a .self .count) (2 * n + 2)) (l && leb (a .self .count) (2 * n + 3)))
-    (whole-test w)
-    (b .before .units .ensures)
+    c .judge .ensures
+    ∙ ap₂ (λ (n x : ℕ). judged n (a .self .graph) (a .self .mask) x (a .self .done)) (b .before .units .ensures)
+    (c .before .before .before .before .before .before .chosen-at .ensures)
 
 returns : tie.Need-returns
 unfolding soundRecordIn
@@ -148,47 +120,66 @@ returns-5 c =
     let a = b .before .before .before .before .args in
     rw (few-at (b .before .before), busy b, legal (e .before .before), known e, graph-test k ∙ ne-eqb (a .self .graph) (k .choose .result) (c .if5 .taken))
 
-closed-requires : tie.Need-closed-requires
-closed-requires c κs = search needs
+judge-requires : tie.Need-judge-requires
+judge-requires c κs = search needs
 
-returns-6 : tie.Need-returns-6
-unfolding soundRecordIn soundRecord
-returns-6 c =
-    let k = c .before in
-    let g = k .before in
-    let e = g .before .before .before .before .before in
-    let b = e .before .before .before .before in
-    rw (
-      few-at (b .before .before),
-      busy b,
-      legal (e .before .before),
-      known e,
-      right-graph g,
-      steps-test k ∙ not-true (k .closed .result) (c .if6 .taken),
-    )
+enum-told : tie.Need-enum-told
+enum-told c = search needs
 
-complete-requires : tie.Need-complete-requires
-complete-requires c κs = search needs
+enum-told-2 : tie.Need-enum-told-2
+enum-told-2 c = search needs
 
 right-count-requires : tie.Need-right-count-requires
 right-count-requires c κs = search needs
 
-returns-7 : tie.Need-returns-7
-unfolding soundRecordIn soundRecord
-returns-7 c =
-    let h = c .before .before .before in
-    let g = h .before .before in
+enum-told-3 : tie.Need-enum-told-3
+enum-told-3 c = search needs
+
+right-count-requires-2 : tie.Need-right-count-requires-2
+right-count-requires-2 c κs = search needs
+
+returns-6 : tie.Need-returns-6
+unfolding soundRecordIn soundRecord rightSteps
+returns-6 c =
+    let k = c .before .before in
+    let g = k .before .before in
     let e = g .before .before .before .before .before in
     let b = e .before .before .before .before in
-    rw (
-      few-at (b .before .before),
-      busy b,
-      legal (e .before .before),
-      known e,
-      right-graph g,
-      steps-test (h .before) ∙ not-false (h .before .closed .result) (h .if6 .left),
-    )
-    (count-test c)
+    let a = b .before .before .before .before .args in
+    let wrong : closed (unitsOf (a .state)) (a .self .graph) (a .self .mask) (chosenAt (a .state) (a .self)) (a .self .done) ≡ false =
+    judged-wrong (unitsOf (a .state)) (a .self .graph) (a .self .mask) (chosenAt (a .state) (a .self)) (a .self .done) (few-at (b .before .before))
+    (sym (judge-test k) ∙ c .enum-told .given .1) in
+    rw (few-at (b .before .before), busy b, legal (e .before .before), known e, right-graph g, wrong)
+
+returns-7 : tie.Need-returns-7
+unfolding soundRecordIn soundRecord rightSteps rightCount lacksNone
+returns-7 c =
+    let k = c .before .before .before in
+    let g = k .before .before in
+    let e = g .before .before .before .before .before in
+    let b = e .before .before .before .before in
+    let s = b .before .before .before .before in
+    let a = s .args in
+    let j =
+    judged-wanting (unitsOf (a .state)) (a .self .graph) (a .self .mask) (chosenAt (a .state) (a .self)) (a .self .done) (few-at (b .before .before))
+    (sym (judge-test k) ∙ c .before .enum-told2 .given .1) in
+    rw (few-at (b .before .before), busy b, legal (e .before .before), known e, right-graph g, j .0, j .1)
+    (c .right-count .ensures ∙ rw (b .before .before .before .units .ensures))
+
+returns-8 : tie.Need-returns-8
+unfolding soundRecordIn soundRecord rightSteps rightCount lacksNone
+returns-8 c =
+    let k = c .before .before .before in
+    let g = k .before .before in
+    let e = g .before .before .before .before .before in
+    let b = e .before .before .before .before in
+    let s = b .before .before .before .before in
+    let a = s .args in
+    let j =
+    judged-whole (unitsOf (a .state)) (a .self .graph) (a .self .mask) (chosenAt (a .state) (a .self)) (a .self .done) (few-at (b .before .before))
+    (sym (judge-test k) ∙ c .before .enum-told3 .given .1) in
+    rw (few-at (b .before .before), busy b, legal (e .before .before), known e, right-graph g, j .0, j .1)
+    (c .right-count2 .ensures ∙ rw (b .before .before .before .units .ensures))
 
 pub is-sound-spec : {M : Type 1} → statement M
 is-sound-spec =
@@ -205,8 +196,12 @@ is-sound-spec =
     chosen-at-requires
     choose-requires
     returns-5
-    closed-requires
-    returns-6
-    complete-requires
+    judge-requires
+    enum-told
+    enum-told-2
     right-count-requires
-    returns-7)
+    enum-told-3
+    right-count-requires-2
+    returns-6
+    returns-7
+    returns-8)

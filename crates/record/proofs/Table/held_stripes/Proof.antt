@@ -1,35 +1,37 @@
 -- `held_stripes` meets its contract. The loop's invariant: the stripes of the records passed are filled in.
 -- Assumes nothing.
-use Prim.Native.Nat.{ℕ, _+_, _-_, _≤_, _<_, min}
+use Prim.Native.Nat.{ℕ, _-_, _≤_, min}
 use mathlib.Core.List.{List}
-use mathlib.Core.Path.{_≡_, ap, ap₂, _∙_}
+use mathlib.Core.Path.{_≡_, refl, ap, ap₂, _∙_}
 use native.Mathlib.Omega.{arith}
 use borrow.Author.Needs.{needs}
-use lib.ListN.{getD, length}
-use lib.ListN.{set}
-use Rattle.record.specs.Asked.{heldStripe}
+use lib.ListN.{getD, set}
+use Rattle.terms.specs.Lists.{tabulate}
+use Rattle.record.specs.Asked.{noStripe, heldStripe}
 use Rattle.record.specs.Life.{free}
-use Rattle.record.proofs.Held.{filling, length-filling, filling-none, filling-more, filling-all}
+use Rattle.record.proofs.Filling.{entry, filling, filling-more}
+use Rattle.record.proofs.Held.{filled-stripes}
 use Rattle.record.proofs.Table.held_stripes.Statement.{statement}
 use Rattle.record.proofs.Table.held_stripes.Tie as tie
 
 abbrev Inv-loop : tie.InvT-loop
-Inv-loop records top stripes₀ i₀ stripes i = (i ≤ top) × (stripes ≡ filling records i)
+Inv-loop self top stripes₀ i₀ stripes i = (i ≤ top) × (stripes ≡ filling 8 (λ k. heldStripe (getD (self .records) k free)) noStripe i)
 
 abbrev μ-loop : tie.MeasureT-loop
-μ-loop records top stripes₀ i₀ stripes i = top - i
+μ-loop self top stripes₀ i₀ stripes i = top - i
 
 filled-requires : tie.Need-filled-requires Inv-loop μ-loop
 filled-requires c κs = search needs
 
 loop-holds : tie.Need-loop-holds Inv-loop μ-loop
-loop-holds c = (search needs, filling-none (c .before .before .args .self .records))
+unfolding filling entry tabulate
+loop-holds c = (search needs, refl)
 
-mul-held-stripe : tie.Need-mul-held-stripe Inv-loop μ-loop
-mul-held-stripe c = search needs
+mul-r : tie.Need-mul-r Inv-loop μ-loop
+mul-r c = search needs
 
-array-copy-out-held-stripe : tie.Need-array-copy-out-held-stripe Inv-loop μ-loop
-array-copy-out-held-stripe c = search needs
+element-copy-out-r : tie.Need-element-copy-out-r Inv-loop μ-loop
+element-copy-out-r c = search needs
 
 held-stripe-requires : tie.Need-held-stripe-requires Inv-loop μ-loop
 held-stripe-requires c κs = search needs
@@ -38,9 +40,7 @@ mul-stripes : tie.Need-mul-stripes Inv-loop μ-loop
 mul-stripes c = search needs
 
 array-write-stripes : tie.Need-array-write-stripes Inv-loop μ-loop
-array-write-stripes c =
-    let l = c .before .before .before in
-    omega (arith, l .before .filled .ensures, c .before .before .loop-test .taken)
+array-write-stripes c = search needs
 
 add-i : tie.Need-add-i Inv-loop μ-loop
 add-i c = search needs
@@ -51,18 +51,18 @@ loop-less c = search needs
 loop-again : tie.Need-loop-again Inv-loop μ-loop
 loop-again c =
     let l = c .before .before .before in
-    let records = l .before .before .before .args .self .records in (
+    let records = l .before .before .args .t1 .records in (
       search needs,
       ap₂ (λ (s : List ℕ) (v : ℕ). set s (l .loop .i) v) (l .loop .inv .1) (c .held-stripe .ensures)
-          ∙ filling-more records (l .loop .i) (omega (arith, l .before .filled .ensures, c .before .before .loop-test .taken)),
+          ∙ filling-more 8 (λ k. heldStripe (getD records k free)) noStripe (l .loop .i) (omega (arith, l .before .filled .ensures, c .before .before .loop-test .taken)),
     )
 
 returns : tie.Need-returns Inv-loop μ-loop
 returns c =
     let l = c .before in
-    let t = l .before .before .before .args .self in
+    let t = l .before .before .args .t1 in
     let e : l .loop .i ≡ min (t .len) 8 = omega (arith, l .loop .inv .0, c .loop-test .left, l .before .filled .ensures) in
-    l .loop .inv .1 ∙ ap (filling (t .records)) e ∙ filling-all t
+    l .loop .inv .1 ∙ ap (filling 8 (λ k. heldStripe (getD (t .records) k free)) noStripe) e ∙ filled-stripes t
 
 pub held-stripes-spec : {M : Type 1} → statement M
 held-stripes-spec =
@@ -72,8 +72,8 @@ held-stripes-spec =
     μ-loop
     filled-requires
     loop-holds
-    mul-held-stripe
-    array-copy-out-held-stripe
+    mul-r
+    element-copy-out-r
     held-stripe-requires
     mul-stripes
     array-write-stripes

@@ -1,13 +1,12 @@
 -- `is_held` meets its contract.
 -- Assumes nothing.
-use Prim.Native.Nat.{ℕ, _+_, _-_, _≤_, _<_, min}
-use mathlib.Core.Bool.{Bool, true, false, not, _&&_}
-use mathlib.Core.Path.{_≡_, refl, sym, ap, _∙_}
-use native.Mathlib.Omega.{arith}
+use Prim.Native.Nat.{ℕ}
+use mathlib.Core.Bool.{not}
+use mathlib.Core.Path.{_≡_, sym, ap, _∙_}
 use borrow.Author.Needs.{needs}
 use lib.ListN.{getD, length}
 use Rattle.terms.specs.Sets.{allBelow}
-use Rattle.record.specs.Life.{free, isFree, recordsOf}
+use Rattle.record.specs.Life.{free}
 use Rattle.record.specs.Sound.{holds}
 use Rattle.record.proofs.Eight.{length-mapped, held-top}
 use Rattle.record.proofs.Table.is_held.Statement.{statement}
@@ -21,8 +20,8 @@ none-holds-requires c κs = search needs
 
 returns : tie.Need-returns
 returns c =
-    let a = c .before .before .before .args in
-    let g = c .before .before .before .good .0 in
+    let a = c .before .before .args in
+    let g = c .before .before .good .0 in
     let eight : length (a .self .records) ≡ 8 = search (needs, length-mapped) in
     ap not
     (c .none-holds .ensures

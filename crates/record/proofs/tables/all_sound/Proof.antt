@@ -1,12 +1,11 @@
 -- `all_sound` meets its contract. The loop's invariant: every record passed is sound.
 -- Assumes nothing.
-use Prim.Native.Nat.{ℕ, _+_, _-_, _≤_, _<_}
-use mathlib.Core.Bool.{Bool, true, false, not}
-use mathlib.Core.Path.{_≡_, refl, sym, ap, _∙_}
-use native.Mathlib.Omega.{arith}
+use Prim.Native.Nat.{_-_, _≤_}
+use mathlib.Core.Bool.{true}
+use mathlib.Core.Path.{_≡_, refl, sym, _∙_}
 use borrow.Author.Needs.{needs}
 use borrow.Author.Tests.{not-true, not-false}
-use lib.ListN.{getD, length}
+use lib.ListN.{getD}
 use Rattle.terms.proofs.Sets.{allBelow-fail}
 use Rattle.terms.specs.Sets.{allBelow}
 use Rattle.record.specs.Asked.{soundRecordIn}
@@ -19,20 +18,20 @@ use Rattle.record.proofs.tables.all_sound.Tie as tie
 -- Assumes nothing.
 
 abbrev Inv-loop : tie.InvT-loop
-Inv-loop top state records i₀ i = (i ≤ top) × (allBelow i (λ k. soundRecordIn state (getD records k free)) ≡ true)
+Inv-loop top state table i₀ i = (i ≤ top) × (allBelow i (λ k. soundRecordIn state (getD (table .records) k free)) ≡ true)
 
 abbrev μ-loop : tie.MeasureT-loop
-μ-loop top state records i₀ i = top - i
+μ-loop top state table i₀ i = top - i
 
 loop-holds : tie.Need-loop-holds Inv-loop μ-loop
 unfolding allBelow
 loop-holds c = (search needs, refl)
 
-mul-is-sound : tie.Need-mul-is-sound Inv-loop μ-loop
-mul-is-sound c = search needs
+mul-r : tie.Need-mul-r Inv-loop μ-loop
+mul-r c = search needs
 
-array-copy-out-is-sound : tie.Need-array-copy-out-is-sound Inv-loop μ-loop
-array-copy-out-is-sound c = search needs
+element-copy-out-r : tie.Need-element-copy-out-r Inv-loop μ-loop
+element-copy-out-r c = search needs
 
 is-sound-requires : tie.Need-is-sound-requires Inv-loop μ-loop
 is-sound-requires c κs = search needs
@@ -42,7 +41,7 @@ returns c =
     let k = c .before in
     let l = k .before .before .before in
     let a = l .before .args in
-    sym (allBelow-fail (a .top) (λ k. soundRecordIn (a .state) (getD (a .t1) k free)) (l .loop .i) (search needs) (sym (k .is-sound .ensures) ∙ not-true (k .is-sound .result) (c .if1 .taken)))
+    sym (allBelow-fail (a .top) (λ k. soundRecordIn (a .state) (getD (a .t1 .records) k free)) (l .loop .i) (search needs) (sym (k .is-sound .ensures) ∙ not-true (k .is-sound .result) (c .if1 .taken)))
 
 add-i : tie.Need-add-i Inv-loop μ-loop
 add-i c = search needs
@@ -55,13 +54,13 @@ loop-again c =
     let k = c .before in
     let l = k .before .before .before in
     let a = l .before .args in
-    (search needs, all-more (λ k. soundRecordIn (a .state) (getD (a .t1) k free)) (l .loop .i) (l .loop .inv .1) (sym (k .is-sound .ensures) ∙ not-false (k .is-sound .result) (c .if1 .left)))
+    (search needs, all-more (λ k. soundRecordIn (a .state) (getD (a .t1 .records) k free)) (l .loop .i) (l .loop .inv .1) (sym (k .is-sound .ensures) ∙ not-false (k .is-sound .result) (c .if1 .left)))
 
 returns-2 : tie.Need-returns-2 Inv-loop μ-loop
 returns-2 c =
     let l = c .before in
     let a = l .before .args in
-    all-done (λ k. soundRecordIn (a .state) (getD (a .t1) k free)) (l .loop .i) (a .top) (l .loop .inv .1) (l .loop .inv .0) (c .loop-test .left)
+    all-done (λ k. soundRecordIn (a .state) (getD (a .t1 .records) k free)) (l .loop .i) (a .top) (l .loop .inv .1) (l .loop .inv .0) (c .loop-test .left)
 
 pub all-sound-spec : {M : Type 1} → statement M
 all-sound-spec =
@@ -70,8 +69,8 @@ all-sound-spec =
     Inv-loop
     μ-loop
     loop-holds
-    mul-is-sound
-    array-copy-out-is-sound
+    mul-r
+    element-copy-out-r
     is-sound-requires
     returns
     add-i

@@ -1,12 +1,10 @@
--- `apart` meets its contract. The outer loop's invariant: no record passed clashes with an earlier one. The inner loop's: record i clashes
--- with none of those passed.
+-- `apart` meets its contract. The outer loop's invariant: no record passed clashes with an earlier one. The inner loop's: record i clashes with none of those passed.
 -- Assumes nothing.
-use Prim.Native.Nat.{ℕ, _+_, _-_, _≤_, _<_}
-use mathlib.Core.Bool.{Bool, true, false, not}
+use Prim.Native.Nat.{_-_, _≤_}
+use mathlib.Core.Bool.{true, not}
 use mathlib.Core.Path.{_≡_, refl, sym, ap, _∙_}
-use native.Mathlib.Omega.{arith}
 use borrow.Author.Needs.{needs}
-use lib.ListN.{getD, length}
+use lib.ListN.{getD}
 use Rattle.terms.proofs.Sets.{allBelow-fail}
 use Rattle.terms.specs.Sets.{allBelow}
 use Rattle.record.specs.Life.{free}
@@ -15,21 +13,20 @@ use Rattle.record.proofs.Loops.{all-more, all-done}
 use Rattle.record.proofs.tables.apart.Statement.{statement}
 use Rattle.record.proofs.tables.apart.Tie as tie
 
--- `apart` meets its contract. The outer loop's invariant: no record passed clashes with an earlier one. The inner loop's: record i clashes
--- with none of those passed.
+-- `apart` meets its contract. The outer loop's invariant: no record passed clashes with an earlier one. The inner loop's: record i clashes with none of those passed.
 -- Assumes nothing.
 
 abbrev Inv-loop2 : tie.InvT-loop2
-Inv-loop2 top records i r j₀ j = (j ≤ i) × (allBelow j (λ k. not (clash r (getD records k free))) ≡ true)
+Inv-loop2 top table i r j₀ j = (j ≤ i) × (allBelow j (λ k. not (clash r (getD (table .records) k free))) ≡ true)
 
 abbrev μ-loop2 : tie.MeasureT-loop2
-μ-loop2 top records i r j₀ j = i - j
+μ-loop2 top table i r j₀ j = i - j
 
 abbrev Inv-loop : tie.InvT-loop
-Inv-loop top records i₀ i = (i ≤ top) × (allBelow i (λ k. allBelow k (λ j. not (clash (getD records k free) (getD records j free)))) ≡ true)
+Inv-loop top table i₀ i = (i ≤ top) × (allBelow i (λ k. allBelow k (λ j. not (clash (getD (table .records) k free) (getD (table .records) j free)))) ≡ true)
 
 abbrev μ-loop : tie.MeasureT-loop
-μ-loop top records i₀ i = top - i
+μ-loop top table i₀ i = top - i
 
 loop-holds : tie.Need-loop-holds Inv-loop2 μ-loop2 Inv-loop μ-loop
 unfolding allBelow
@@ -38,18 +35,18 @@ loop-holds c = (search needs, refl)
 mul-r : tie.Need-mul-r Inv-loop2 μ-loop2 Inv-loop μ-loop
 mul-r c = search needs
 
-array-copy-out-r : tie.Need-array-copy-out-r Inv-loop2 μ-loop2 Inv-loop μ-loop
-array-copy-out-r c = search needs
+element-copy-out-r : tie.Need-element-copy-out-r Inv-loop2 μ-loop2 Inv-loop μ-loop
+element-copy-out-r c = search needs
 
 loop2-holds : tie.Need-loop2-holds Inv-loop2 μ-loop2 Inv-loop μ-loop
 unfolding allBelow
 loop2-holds c = (search needs, refl)
 
-mul-clashes : tie.Need-mul-clashes Inv-loop2 μ-loop2 Inv-loop μ-loop
-mul-clashes c = search needs
+mul-q : tie.Need-mul-q Inv-loop2 μ-loop2 Inv-loop μ-loop
+mul-q c = search needs
 
-array-copy-out-clashes : tie.Need-array-copy-out-clashes Inv-loop2 μ-loop2 Inv-loop μ-loop
-array-copy-out-clashes c = search needs
+element-copy-out-q : tie.Need-element-copy-out-q Inv-loop2 μ-loop2 Inv-loop μ-loop
+element-copy-out-q c = search needs
 
 clashes-requires : tie.Need-clashes-requires Inv-loop2 μ-loop2 Inv-loop μ-loop
 clashes-requires c κs = search needs
@@ -62,8 +59,8 @@ returns c =
     let a = l .before .args in
     let i = l .loop .i in
     sym
-    (allBelow-fail (a .top) (λ i. allBelow i (λ j. not (clash (getD (a .t1) i free) (getD (a .t1) j free)))) i (search needs)
-    (allBelow-fail i (λ j. not (clash (getD (a .t1) i free) (getD (a .t1) j free))) (m .loop2 .j) (search needs) (ap not (sym (k .clashes .ensures) ∙ c .if1 .taken))))
+    (allBelow-fail (a .top) (λ i. allBelow i (λ j. not (clash (getD (a .t1 .records) i free) (getD (a .t1 .records) j free)))) i (search needs)
+    (allBelow-fail i (λ j. not (clash (getD (a .t1 .records) i free) (getD (a .t1 .records) j free))) (m .loop2 .j) (search needs) (ap not (sym (k .clashes .ensures) ∙ c .if1 .taken))))
 
 add-j : tie.Need-add-j Inv-loop2 μ-loop2 Inv-loop μ-loop
 add-j c = search needs
@@ -78,7 +75,7 @@ loop2-again c =
     let l = m .before .before .before in
     let a = l .before .args in
     let i = l .loop .i in
-    (search needs, all-more (λ j. not (clash (getD (a .t1) i free) (getD (a .t1) j free))) (m .loop2 .j) (m .loop2 .inv .1) (ap not (sym (k .clashes .ensures) ∙ c .if1 .left)))
+    (search needs, all-more (λ j. not (clash (getD (a .t1 .records) i free) (getD (a .t1 .records) j free))) (m .loop2 .j) (m .loop2 .inv .1) (ap not (sym (k .clashes .ensures) ∙ c .if1 .left)))
 
 add-i : tie.Need-add-i Inv-loop2 μ-loop2 Inv-loop μ-loop
 add-i c = search needs
@@ -92,13 +89,13 @@ loop-again c =
     let l = m .before .before .before in
     let a = l .before .args in
     let i = l .loop .i in
-    (search needs, all-more (λ i. allBelow i (λ j. not (clash (getD (a .t1) i free) (getD (a .t1) j free)))) i (l .loop .inv .1) (sym (all-done (λ j. not (clash (getD (a .t1) i free) (getD (a .t1) j free))) (m .loop2 .j) i (m .loop2 .inv .1) (m .loop2 .inv .0) (c .loop2-test .left))))
+    (search needs, all-more (λ i. allBelow i (λ j. not (clash (getD (a .t1 .records) i free) (getD (a .t1 .records) j free)))) i (l .loop .inv .1) (sym (all-done (λ j. not (clash (getD (a .t1 .records) i free) (getD (a .t1 .records) j free))) (m .loop2 .j) i (m .loop2 .inv .1) (m .loop2 .inv .0) (c .loop2-test .left))))
 
 returns-2 : tie.Need-returns-2 Inv-loop2 μ-loop2 Inv-loop μ-loop
 returns-2 c =
     let l = c .before in
     let a = l .before .args in
-    all-done (λ i. allBelow i (λ j. not (clash (getD (a .t1) i free) (getD (a .t1) j free)))) (l .loop .i) (a .top) (l .loop .inv .1) (l .loop .inv .0) (c .loop-test .left)
+    all-done (λ i. allBelow i (λ j. not (clash (getD (a .t1 .records) i free) (getD (a .t1 .records) j free)))) (l .loop .i) (a .top) (l .loop .inv .1) (l .loop .inv .0) (c .loop-test .left)
 
 pub apart-spec : {M : Type 1} → statement M
 apart-spec =
@@ -110,10 +107,10 @@ apart-spec =
     μ-loop
     loop-holds
     mul-r
-    array-copy-out-r
+    element-copy-out-r
     loop2-holds
-    mul-clashes
-    array-copy-out-clashes
+    mul-q
+    element-copy-out-q
     clashes-requires
     returns
     add-j

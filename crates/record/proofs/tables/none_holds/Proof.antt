@@ -1,12 +1,10 @@
 -- `none_holds` meets its contract. The loop's invariant: no record passed is open on the stripe.
 -- Assumes nothing.
-use Prim.Native.Nat.{ℕ, _+_, _-_, _≤_, _<_}
-use mathlib.Core.Bool.{Bool, true, false, not}
+use Prim.Native.Nat.{_-_, _≤_}
+use mathlib.Core.Bool.{true, not}
 use mathlib.Core.Path.{_≡_, refl, sym, ap, _∙_}
-use native.Mathlib.Omega.{arith}
 use borrow.Author.Needs.{needs}
-use borrow.Author.Tests.{not-true, not-false}
-use lib.ListN.{getD, length}
+use lib.ListN.{getD}
 use Rattle.terms.proofs.Sets.{allBelow-fail}
 use Rattle.terms.specs.Sets.{allBelow}
 use Rattle.record.specs.Life.{free}
@@ -19,20 +17,20 @@ use Rattle.record.proofs.tables.none_holds.Tie as tie
 -- Assumes nothing.
 
 abbrev Inv-loop : tie.InvT-loop
-Inv-loop top stripe records i₀ i = (i ≤ top) × (allBelow i (λ k. not (holds stripe (getD records k free))) ≡ true)
+Inv-loop top stripe table i₀ i = (i ≤ top) × (allBelow i (λ k. not (holds stripe (getD (table .records) k free))) ≡ true)
 
 abbrev μ-loop : tie.MeasureT-loop
-μ-loop top stripe records i₀ i = top - i
+μ-loop top stripe table i₀ i = top - i
 
 loop-holds : tie.Need-loop-holds Inv-loop μ-loop
 unfolding allBelow
 loop-holds c = (search needs, refl)
 
-mul-holds : tie.Need-mul-holds Inv-loop μ-loop
-mul-holds c = search needs
+mul-r : tie.Need-mul-r Inv-loop μ-loop
+mul-r c = search needs
 
-array-copy-out-holds : tie.Need-array-copy-out-holds Inv-loop μ-loop
-array-copy-out-holds c = search needs
+element-copy-out-r : tie.Need-element-copy-out-r Inv-loop μ-loop
+element-copy-out-r c = search needs
 
 holds-requires : tie.Need-holds-requires Inv-loop μ-loop
 holds-requires c κs = search needs
@@ -42,7 +40,7 @@ returns c =
     let k = c .before in
     let l = k .before .before .before in
     let a = l .before .args in
-    sym (allBelow-fail (a .top) (λ k. not (holds (a .stripe) (getD (a .t1) k free))) (l .loop .i) (search needs) (ap not (sym (k .holds .ensures) ∙ c .if1 .taken)))
+    sym (allBelow-fail (a .top) (λ k. not (holds (a .stripe) (getD (a .t1 .records) k free))) (l .loop .i) (search needs) (ap not (sym (k .holds .ensures) ∙ c .if1 .taken)))
 
 add-i : tie.Need-add-i Inv-loop μ-loop
 add-i c = search needs
@@ -55,13 +53,13 @@ loop-again c =
     let k = c .before in
     let l = k .before .before .before in
     let a = l .before .args in
-    (search needs, all-more (λ k. not (holds (a .stripe) (getD (a .t1) k free))) (l .loop .i) (l .loop .inv .1) (ap not (sym (k .holds .ensures) ∙ c .if1 .left)))
+    (search needs, all-more (λ k. not (holds (a .stripe) (getD (a .t1 .records) k free))) (l .loop .i) (l .loop .inv .1) (ap not (sym (k .holds .ensures) ∙ c .if1 .left)))
 
 returns-2 : tie.Need-returns-2 Inv-loop μ-loop
 returns-2 c =
     let l = c .before in
     let a = l .before .args in
-    all-done (λ k. not (holds (a .stripe) (getD (a .t1) k free))) (l .loop .i) (a .top) (l .loop .inv .1) (l .loop .inv .0) (c .loop-test .left)
+    all-done (λ k. not (holds (a .stripe) (getD (a .t1 .records) k free))) (l .loop .i) (a .top) (l .loop .inv .1) (l .loop .inv .0) (c .loop-test .left)
 
 pub none-holds-spec : {M : Type 1} → statement M
 none-holds-spec =
@@ -70,8 +68,8 @@ none-holds-spec =
     Inv-loop
     μ-loop
     loop-holds
-    mul-holds
-    array-copy-out-holds
+    mul-r
+    element-copy-out-r
     holds-requires
     returns
     add-i

@@ -1,0 +1,21 @@
+-- `table_test_held` meets its contract.
+-- Assumes nothing.
+use mathlib.Core.Path.{_∙_, ap}
+use borrow.Author.Needs.{needs}
+use Rattle.graph_test.proofs.records.table_test_held.Statement.{statement}
+use Rattle.graph_test.proofs.records.table_test_held.Tie as tie
+use Rattle.record.specs.Life.{recordsOf}
+use Rattle.record.specs.Sound.{held}
+use Rattle.record.specs.declared.Table.{Table}
+
+table-requires : tie.Need-table-requires
+table-requires c κs = search needs
+
+is-held-requires : tie.Need-is-held-requires
+is-held-requires c κs = search needs
+
+returns : tie.Need-returns
+returns c = c .is-held .ensures ∙ ap (λ (t : Table). held (recordsOf t) (c .before .before .before .args .stripe)) (c .before .table .ensures)
+
+pub table-test-held-spec : {M : Type 1} → statement M
+table-test-held-spec = tie.close (tie.spec table-requires is-held-requires returns)

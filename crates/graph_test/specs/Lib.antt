@@ -1,0 +1,2 @@
+-- Records and tables as numbers.
+pub mod Numbers

@@ -1,0 +1,108 @@
+// The graphs.
+ghost use mathlib.Core.Bool.{cond, _&&_};
+ghost use mathlib.Core.Path.{_≡_};
+ghost use Rattle.graph.specs.Asked.{fewUnits, stepSet, beforeSet, judged};
+ghost use Rattle.graph.specs.Choice.{choose};
+ghost use Rattle.graph.specs.Order.{ready, complete};
+ghost use Rattle.graph.specs.Steps.{stepOf};
+ghost use Rattle.graph.specs.Sums.{takesRead, takesNew, sumsToRead};
+ghost use Rattle.graph_test.specs.Numbers.{judgedNumber, kindOf, placeOf};
+use graph::Action;
+use graph::Judged;
+
+#[no_mangle]
+pub extern "C" fn graph_test_choose(n: u64, write: bool, mask: u64, x: u64) -> u64
+    ensures { λ r. ⌜ r ≡ choose n write mask x ⌝ }
+{
+    graph::choose(n, write, mask, x)
+}
+
+#[no_mangle]
+pub extern "C" fn graph_test_steps(n: u64, g: u64, mask: u64, x: u64) -> u64
+    ensures { λ r. ⌜ r ≡ cond (fewUnits n) (stepSet n g mask x) 0 ⌝ }
+{
+    graph::all_steps(n, g, mask, x)
+}
+
+#[no_mangle]
+pub extern "C" fn graph_test_before(n: u64, g: u64, mask: u64, x: u64, k: u64) -> u64
+    ensures { λ r. ⌜ r ≡ cond (fewUnits n) (beforeSet n g mask x k) 0 ⌝ }
+{
+    graph::before(n, g, mask, x, k)
+}
+
+#[no_mangle]
+pub extern "C" fn graph_test_ready(n: u64, g: u64, mask: u64, x: u64, done: u64, k: u64) -> bool
+    ensures { λ r. ⌜ r ≡ (fewUnits n && ready n g mask x done k) ⌝ }
+{
+    graph::ready(n, g, mask, x, done, k)
+}
+
+#[no_mangle]
+pub extern "C" fn graph_test_complete(n: u64, g: u64, mask: u64, x: u64, done: u64) -> bool
+    ensures { λ r. ⌜ r ≡ (fewUnits n && complete n g mask x done) ⌝ }
+{
+    graph::complete(n, g, mask, x, done)
+}
+
+// Of done steps: 0 where they are wrong, 1 where a step is wanting, 2 where none is.
+#[no_mangle]
+pub extern "C" fn graph_test_judge(n: u64, g: u64, mask: u64, x: u64, done: u64) -> u64
+    ensures { λ r. ⌜ r ≡ judgedNumber (judged n g mask x done) ⌝ }
+{
+    let judged = graph::judge(n, g, mask, x, done);
+    match judged {
+        Judged::Wrong => 0,
+        Judged::Wanting => 1,
+        Judged::Whole => 2,
+    }
+}
+
+// What step k does: 1 reads, 2 is the exclusive or, 3 writes, 0 is no step.
+#[no_mangle]
+pub extern "C" fn graph_test_kind(n: u64, k: u64) -> u64
+    ensures { λ r. ⌜ r ≡ kindOf (stepOf n k) ⌝ }
+{
+    let action = graph::step_of(n, k);
+    match action {
+        Action::Read(_) => 1,
+        Action::Sum => 2,
+        Action::Write(_) => 3,
+        Action::Nothing => 0,
+    }
+}
+
+// The position that step k reads or writes.
+#[no_mangle]
+pub extern "C" fn graph_test_place(n: u64, k: u64) -> u64
+    ensures { λ r. ⌜ r ≡ placeOf (stepOf n k) ⌝ }
+{
+    let action = graph::step_of(n, k);
+    match action {
+        Action::Read(p) => p,
+        Action::Sum => 0,
+        Action::Write(p) => p,
+        Action::Nothing => 0,
+    }
+}
+
+#[no_mangle]
+pub extern "C" fn graph_test_takes_read(n: u64, g: u64, mask: u64, x: u64, p: u64) -> bool
+    ensures { λ r. ⌜ r ≡ (takesRead n g mask x p) ⌝ }
+{
+    graph::takes_read(n, g, mask, x, p)
+}
+
+#[no_mangle]
+pub extern "C" fn graph_test_takes_new(n: u64, g: u64, mask: u64, p: u64) -> bool
+    ensures { λ r. ⌜ r ≡ (takesNew n g mask p) ⌝ }
+{
+    graph::takes_new(n, g, mask, p)
+}
+
+#[no_mangle]
+pub extern "C" fn graph_test_sums_to_read(g: u64) -> bool
+    ensures { λ r. ⌜ r ≡ (sumsToRead g) ⌝ }
+{
+    graph::sums_to_read(g)
+}

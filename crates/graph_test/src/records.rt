@@ -1,0 +1,100 @@
+// Tables, as slices of numbers: a state is six numbers, and zeros where the slice is too short; a record is eight.
+ghost use mathlib.Core.Path.{_≡_};
+ghost use Prim.Native.Nat.{_+_, _*_, _≤_, min};
+ghost use lib.ListN.{length, getD};
+ghost use Rattle.record.specs.Asked.{soundIn};
+ghost use Rattle.record.specs.Life.{recordsOf};
+ghost use Rattle.record.specs.Sound.{held, lowestFree};
+ghost use Rattle.graph_test.specs.Numbers.{stateFrom, recordFrom, tableFrom};
+use geometry::State;
+use record::Record;
+use record::Table;
+
+// The number at i, and 0 past the end.
+fn at(numbers: &[u64], i: usize) -> u64
+    ensures { λ r. ⌜ r ≡ getD (now (numbers .entry)) i 0 ⌝ }
+{
+    if i < numbers.len() {
+        return numbers[i];
+    }
+    0
+}
+
+fn state(numbers: &[u64]) -> State
+    ensures { λ r. ⌜ r ≡ stateFrom (now (numbers .entry)) ⌝ }
+{
+    State {
+        cards: at(numbers, 0),
+        stripes: at(numbers, 1),
+        block: at(numbers, 2),
+        records: at(numbers, 3),
+        out: at(numbers, 4),
+        lost: at(numbers, 5),
+    }
+}
+
+// The record of the eight numbers from 8·i on.
+fn record(numbers: &[u64], i: usize) -> Record
+    requires { ⌜ (i ≤ 8) × (8 * i + 8 ≤ length (now numbers)) ⌝ }
+    ensures { λ r. ⌜ r ≡ recordFrom (now (numbers .entry)) i ⌝ }
+{
+    let first = 8 * i;
+    Record {
+        phase: numbers[first],
+        write: numbers[first + 1],
+        stripe: numbers[first + 2],
+        mask: numbers[first + 3],
+        graph: numbers[first + 4],
+        chosen: numbers[first + 5],
+        done: numbers[first + 6],
+        count: numbers[first + 7],
+    }
+}
+
+// At most eight.
+fn capped(len: usize) -> usize
+    ensures { λ r. ⌜ r ≡ min len 8 ⌝ }
+{
+    if len < 8 {
+        return len;
+    }
+    8
+}
+
+fn table(numbers: &[u64]) -> Table
+    ensures { λ r. ⌜ r ≡ tableFrom (now (numbers .entry)) ⌝ }
+{
+    let len = numbers.len() / 8;
+    let top = capped(len);
+    let mut records = [record::free(); 8];
+    let mut i = 0;
+    while i < top {
+        records[i] = record(numbers, i);
+        i += 1;
+    }
+    Table {
+        records,
+        len: len as u64,
+    }
+}
+
+#[no_mangle]
+pub extern "C" fn table_test_sound(numbers: &[u64], all: &[u64]) -> bool
+    ensures { λ r. ⌜ r ≡ soundIn (stateFrom (now (numbers .entry))) (tableFrom (now (all .entry))) ⌝ }
+{
+    table(all).is_sound(state(numbers))
+}
+
+#[no_mangle]
+pub extern "C" fn table_test_lowest_free(all: &[u64]) -> u64
+    ensures { λ r. ⌜ r ≡ lowestFree (recordsOf (tableFrom (now (all .entry)))) ⌝ }
+{
+    table(all).lowest_free()
+}
+
+#[no_mangle]
+pub extern "C" fn table_test_held(all: &[u64], stripe: u64) -> bool
+    ensures { λ r. ⌜ r ≡ held (recordsOf (tableFrom (now (all .entry)))) stripe ⌝ }
+{
+    table(all).is_held(stripe)
+}

@@ -1,0 +1,147 @@
+-- What is known of a sound record that is not free, and what it allows: an open one has a ready step, and its steps can be marked and counted.
+-- Assumes nothing.
+use Prim.Native.Nat.{ℕ, _+_, _-_, _*_, _^_, _≤_, _<_}
+use mathlib.Core.Bool.{Bool, true, false, not, _&&_, _||_}
+use mathlib.Core.List.{List}
+use mathlib.Core.Logic.{_⊎_, inl, inr, ⊎-elim}
+use mathlib.Core.Path.{_≡_, refl, ap, _∙_}
+use native.Mathlib.Omega.{arith}
+use borrow.Author.Tests.{ltb-true, ltb-false, lt-ltb, leb-true, eqb-true, eqb-false, ne-eqb, not-true}
+use lib.Dec.{ltb, leb, eqb}
+use lib.ListN.{length, getD, List·getD-eq-default}
+use Rattle.terms.proofs.Lists.{every-elim}
+use Rattle.terms.proofs.Rows.{truth, and-left, and-right, or-cases, within-high}
+use Rattle.terms.specs.Lists.{every}
+use Rattle.terms.specs.Sets.{within}
+use Rattle.geometry.specs.Limits.{none}
+use Rattle.geometry.specs.Placement.{outIn}
+use Rattle.geometry.specs.declared.State.{State}
+use Rattle.graph.proofs.Laws.{ready-elim, progress, member-below}
+use Rattle.graph.specs.Asked.{fewUnits}
+use Rattle.graph.specs.Choice.{choose}
+use Rattle.graph.specs.Order.{ready, complete, closed}
+use Rattle.record.specs.Asked.{fewIn, canCount, canStep, steppedOr, afreshOr, soundIn}
+use Rattle.record.specs.Life.{free, recordsOf, isFree, isOpen, isFinished, isWrite, unitsOf, chosenAt, stepped, afresh}
+use Rattle.record.specs.Sound.{allZero, legalMask, legalRecord, legalChosen, rightGraph, rightSteps, lacksNone, rightCount, soundRecord, apart, sound}
+use Rattle.record.specs.declared.Record.{Record}
+use Rattle.record.specs.declared.Table.{Table}
+
+-- the clauses, as facts
+pub record Sound (st : State) (r : Record) : Type 0 where
+  pub busy : (r .phase ≡ 1) ⊎ (r .phase ≡ 2)
+  pub kind : r .write ≤ 1
+  pub in-array : r .stripe < st .stripes
+  pub some-unit : ¬ (r .mask ≡ 0)
+  pub units-only : r .mask < 2 ^ unitsOf st
+  pub known-card : (r .chosen ≡ none) ⊎ (r .chosen ≡ outIn st (r .stripe))
+  pub right-graph : r .graph ≡ choose (unitsOf st) (isWrite r) (r .mask) (chosenAt st r)
+  pub in-order : closed (unitsOf st) (r .graph) (r .mask) (chosenAt st r) (r .done) ≡ true
+  pub open-lacks : isOpen r ≡ true
+      → (complete (unitsOf st) (r .graph) (r .mask) (chosenAt st r) (r .done) ≡ false) × (r .count ≤ 2 * unitsOf st + 2)
+  pub finished-lacks : isOpen r ≡ false
+      → (complete (unitsOf st) (r .graph) (r .mask) (chosenAt st r) (r .done) ≡ true) × (r .count ≤ 2 * unitsOf st + 3)
+
+module _ (st : State) (r : Record) where
+  pub sound-elim : soundRecord st r ≡ true → isFree r ≡ false → Sound st r
+  unfolding soundRecord legalRecord legalMask legalChosen rightGraph rightSteps rightCount lacksNone
+  sound-elim e f =
+      let g1 : Bool = legalRecord st r in
+      let g2 : Bool = legalChosen st r in
+      let g3 : Bool = rightGraph st r in
+      let g4 : Bool = rightSteps st r in
+      let g5 : Bool = rightCount st r in
+      let all : (g1 && g2 && g3 && g4 && g5) ≡ true = rw f at e in
+      let c4 = and-left (g1 && g2 && g3 && g4) g5 all in
+      let c3 = and-left (g1 && g2 && g3) g4 c4 in
+      let c2 = and-left (g1 && g2) g3 c3 in
+      let c1 = and-left g1 g2 c2 in
+      let l1 : Bool = isOpen r || isFinished r in
+      let l2 : Bool = within 0 1 (r .write) in
+      let l3 : Bool = ltb (r .stripe) (st .stripes) in
+      let l4 : Bool = legalMask (unitsOf st) (r .mask) in
+      let d4 : (l1 && l2 && l3 && l4) ≡ true = and-left (l1 && l2 && l3 && l4) (within 1 6 (r .graph)) c1 in
+      let d3 = and-left (l1 && l2 && l3) l4 d4 in
+      let d2 = and-left (l1 && l2) l3 d3 in
+      let mask = and-right (l1 && l2 && l3) l4 d4 in
+      let whole : Bool = complete (unitsOf st) (r .graph) (r .mask) (chosenAt st r) (r .done) in
+      let counts = and-right (g1 && g2 && g3 && g4) g5 all in
+      record {
+        busy = ⊎-elim (λ q. inl (eqb-true (r .phase) 1 q)) (λ q. inr (eqb-true (r .phase) 2 q)) (or-cases (isOpen r) (isFinished r) (and-left l1 l2 d2));
+        kind = within-high 0 1 (r .write) (and-right l1 l2 d2);
+        in-array = ltb-true (r .stripe) (st .stripes) (and-right (l1 && l2) l3 d3);
+        some-unit = eqb-false (r .mask) 0 (not-true (eqb (r .mask) 0) (and-left (not (eqb (r .mask) 0)) (ltb (r .mask) (2 ^ unitsOf st)) mask));
+        units-only = ltb-true (r .mask) (2 ^ unitsOf st) (and-right (not (eqb (r .mask) 0)) (ltb (r .mask) (2 ^ unitsOf st)) mask);
+        known-card =
+            ⊎-elim (λ q. inl (eqb-true (r .chosen) none q)) (λ q. inr (eqb-true (r .chosen) (outIn st (r .stripe)) q))
+            (or-cases (eqb (r .chosen) none) (eqb (r .chosen) (outIn st (r .stripe))) (and-right g1 g2 c2));
+        right-graph = eqb-true (r .graph) (choose (unitsOf st) (isWrite r) (r .mask) (chosenAt st r)) (and-right (g1 && g2) g3 c3);
+        in-order = and-right (g1 && g2 && g3) g4 c4;
+        open-lacks = λ o.
+            let k : (not whole && leb (r .count) (2 * unitsOf st + 2)) ≡ true = rw o at counts in
+            (not-true whole (and-left (not whole) (leb (r .count) (2 * unitsOf st + 2)) k), leb-true (r .count) (2 * unitsOf st + 2) (and-right (not whole) (leb (r .count) (2 * unitsOf st + 2)) k));
+        finished-lacks = λ o.
+            let k : (whole && leb (r .count) (2 * unitsOf st + 3)) ≡ true = rw o at counts in
+            (and-left whole (leb (r .count) (2 * unitsOf st + 3)) k, leb-true (r .count) (2 * unitsOf st + 3) (and-right whole (leb (r .count) (2 * unitsOf st + 3)) k));
+      }
+
+  open-busy : isOpen r ≡ true → isFree r ≡ false
+  open-busy o = ne-eqb (r .phase) 0 (λ q. let z = eqb-true (r .phase) 1 o in omega arith)
+
+  -- an open one has a ready step
+  pub sound-ready : soundRecord st r ≡ true → isOpen r ≡ true
+      → (k : ℕ) × (ready (unitsOf st) (r .graph) (r .mask) (chosenAt st r) (r .done) k ≡ true)
+  sound-ready s o =
+      progress (unitsOf st) (r .graph) (r .mask) (chosenAt st r) (r .done) (sound-elim s (open-busy o) .open-lacks o .0)
+
+  few-elim : fewIn st ≡ true → unitsOf st ≤ 7
+  unfolding fewUnits
+  few-elim e = leb-true (unitsOf st) 7 e
+
+  -- one more step can be counted
+  pub sound-counts : soundRecord st r ≡ true → isFree r ≡ false → fewIn st ≡ true → canCount r ≡ true
+  unfolding canCount
+  sound-counts s f n =
+      let b = sound-elim s f in
+      let few = few-elim n in
+      lt-ltb (r .count) 18446744073709551615
+      (⊎-elim (λ o. let c = b .open-lacks o .1 in omega arith) (λ o. let c = b .finished-lacks o .1 in omega arith) (truth (isOpen r)))
+
+  -- a ready step of a sound record is marked, and a fresh choice is made
+  pub stepped-is : soundRecord st r ≡ true → isOpen r ≡ true → fewIn st ≡ true → (k : ℕ)
+      → ready (unitsOf st) (r .graph) (r .mask) (chosenAt st r) (r .done) k ≡ true → steppedOr st r k ≡ stepped st r k
+  unfolding steppedOr canStep
+  stepped-is s o n k e =
+      let few = few-elim n in
+      let a = ready-elim (unitsOf st) (r .graph) (r .mask) (chosenAt st r) (r .done) k e in
+      let below = member-below (unitsOf st) (r .graph) (r .mask) (chosenAt st r) k (a .in-graph) in
+      rw (n, lt-ltb k 64 (omega arith), a .not-done, sound-counts s (open-busy o) n)
+
+  pub afresh-is : soundRecord st r ≡ true → isOpen r ≡ true → fewIn st ≡ true → afreshOr st r ≡ afresh st r
+  unfolding afreshOr
+  afresh-is s o n = rw (sound-counts s (open-busy o) n)
+
+-- ---- of a table
+
+pub free-sound : (st : State) → soundRecord st free ≡ true
+unfolding soundRecord allZero
+free-sound st = refl
+
+module _ (st : State) (l : List Record) (e : sound st l ≡ true) where
+  -- each record is sound, and past the end the free one
+  pub sound-record : (i : ℕ) → soundRecord st (getD l i free) ≡ true
+  unfolding sound
+  sound-record i =
+      ⊎-elim
+      (λ a. every-elim (soundRecord st) l i free (and-left (every (soundRecord st) l) (apart l) e) (ltb-true i (length l) a))
+      (λ a. ap (soundRecord st) (List·getD-eq-default l free {n = i} (ltb-false i (length l) a)) ∙ free-sound st)
+      (truth (ltb i (length l)))
+
+  -- no two open records share a stripe
+  pub sound-apart : apart l ≡ true
+  unfolding sound
+  sound-apart = and-right (every (soundRecord st) l) (apart l) e
+
+-- where the units are few the table by value is sound where its records are
+pub sound-in : (st : State) (t : Table) → fewIn st ≡ true → soundIn st t ≡ sound st (recordsOf t)
+unfolding soundIn
+sound-in st t n = rw n
