@@ -3,12 +3,12 @@
 use Prim.Native.Nat.{ℕ}
 use mathlib.Core.Bool.{Bool, true, false, cond}
 use mathlib.Core.List.{List}
-use mathlib.Core.Path.{_≡_, sym, ap, _∙_}
+use mathlib.Core.Path.{_≡_, refl, sym, ap, _∙_}
 use native.Mathlib.Omega.{arith}
-use lib.Dec.{eqb}
-use lib.ListN.{length, getD, set}
-use lib.Seq.{set-out}
-use borrow.Author.Tests.{eq-eqb, ne-eqb}
+use lib.Dec.{eqb, ltb}
+use lib.ListN.{length, getD, set, List·getD-eq-default}
+use lib.Seq.{set-out, getD-set-same}
+use borrow.Author.Tests.{eq-eqb, ne-eqb, ltb-true, ltb-false}
 use Rattle.terms.specs.Reply.{accepted, refused}
 use Rattle.geometry.specs.declared.State.{State}
 use Rattle.graph.specs.Steps.{stepOf}
@@ -23,6 +23,18 @@ use Rattle.array.specs.Stepping.{stepping, accepting, meetsOut, workAfte
 use Rattle.array.specs.declared.answers.Admitted.{Admitted}
 use Rattle.array.specs.declared.answers.Collected.{Collected}
 use Rattle.array.specs.declared.answers.Stepped.{Stepped}
+use Rattle.array.proofs.Passed.{admit-passed, step-passed}
+
+-- past the table's end stands no record, and a record that was freed is free wherever it stood
+past-end : (table : List Record) (i : ℕ) → i ≡ length table → free ≡ getD table i free
+past-end table i e = sym (List·getD-eq-default table free (omega arith))
+
+freed-there : (table : List Record) (i : ℕ) → getD (set table i free) i free ≡ free
+freed-there table i = go (ltb i (length table)) refl
+  where
+    go : (b : Bool) → ltb i (length table) ≡ b → getD (set table i free) i free ≡ free
+    go true e = getD-set-same table i free free (ltb-true i (length table) e)
+    go false e = ap (λ (t : List Record). getD t i free) (set-out table i free (ltb-false i (length table) e)) ∙ List·getD-eq-default table free (ltb-false i (length table) e)
 
 module _ (st : State) (table : List Record) (work image : List ℕ) (write : Bool) (s mask : ℕ) (payload : List ℕ) where
   abbrev number : ℕ
@@ -39,6 +51,7 @@ module _ (st : State) (table : List Record) (work image : List ℕ) (write : Boo
         answer = simp (no-accept, no-accept) (ap Admitted.Refused e);
         change = simp no-accept (set-out table len free (omega arith));
         place = simp no-accept l;
+        stands = simp no-accept (past-end table len l);
         work-left = simp no-accept;
       }
 
@@ -54,12 +67,19 @@ module _ (st : State) (table : List Record) (work image : List ℕ) (write : Boo
         answer = simp accept (ap Admitted.Taken p);
         change = simp (accept, p, q);
         place = simp accept p;
+        stands = simp (accept, p, q) (sym (getD-set-same table (lowestFree table) (admitted st write s mask) free (admit-passed st table work image write s mask payload (sym e ∙ z) .some-free)));
         work-left = simp accept v;
       }
 
 module _ (st : State) (table : List Record) (work image : List ℕ) (i k : ℕ) where
   abbrev step-number : ℕ
   step-number = stepRefusal st table work image i k
+
+  -- an accepted step's record is one of the table's
+  in-place : (r : Record) → step-number ≡ 0 → r ≡ getD (set table i r) i free
+  in-place r z =
+      let a = step-passed st table work image i k z in
+      sym (getD-set-same table i r free (omega (arith, a .record-below, a .right .table-right)))
 
   pub stepping-refused : (number len : ℕ) → number ≡ step-number → ¬ (number ≡ 0) → len ≡ length table
       → SteppingIs (stepping st table work image i k) table i
@@ -72,6 +92,7 @@ module _ (st : State) (table : List Record) (work image : List ℕ) (i k : ℕ) 
         answer = simp (no-accept, no-accept) (ap Stepped.Refused e);
         change = simp no-accept (set-out table len free (omega arith));
         place = simp (no-accept, no-accept) l;
+        stands = simp no-accept (past-end table len l);
         work-left = simp no-accept;
         image-left = simp no-accept;
       }
@@ -90,6 +111,7 @@ module _ (st : State) (table : List Record) (work image : List ℕ) (i k : ℕ) 
         answer = simp (accept, out, none-named) (ap (λ (a : Record). Stepped.Chosen (a .graph)) q);
         change = simp (accept, out) (ap (set table i) q);
         place = simp (accept, out);
+        stands = simp (accept, out) (q ∙ in-place (afresh st (getD table i free)) (sym e ∙ z));
         work-left = simp (accept, out);
         image-left = simp (accept, out);
       }
@@ -109,6 +131,7 @@ module _ (st : State) (table : List Record) (work image : List ℕ) (i k : ℕ) 
         answer = simp (accept, works);
         change = simp (accept, works) (ap (set table i) q);
         place = simp (accept, works);
+        stands = simp (accept, works) (q ∙ in-place (stepped st (getD table i free) k) (sym e ∙ z));
         work-left = simp (accept, works) hw;
         image-left = simp (accept, works) hm;
       }
@@ -128,6 +151,7 @@ module _ (st : State) (table : List Record) (work : List ℕ) (i : ℕ) (result 
         answer = simp (no-accept, no-accept) (ap Collected.Refused e);
         change = simp no-accept (set-out table len free (omega arith));
         place = simp (no-accept, no-accept) l;
+        stands = simp no-accept (past-end table len l);
         result-left = simp no-accept;
       }
 
@@ -143,5 +167,6 @@ module _ (st : State) (table : List Record) (work : List ℕ) (i : ℕ) (result 
         answer = simp accept (ap (λ (a : Record). Collected.Steps (a .count)) q);
         change = simp accept;
         place = simp accept;
+        stands = simp accept (sym (freed-there table i));
         result-left = simp accept (v ∙ ap (λ (a : Record). cond (isWrite a) result (handOver st i (a .mask) work result)) q);
       }

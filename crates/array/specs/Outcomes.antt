@@ -1,13 +1,14 @@
--- What the calls over a table by value hand back, held to what document 01 says they answer and leave. A call hands back the record that
--- changes and its place; a refused one the table's length, which is no place, and a free record.
+-- What the calls over a table by value hand back, held to what document 01 says they answer and leave. A call hands back the place where
+-- the table changes and the record that stands there after it; a refused one the table's length, which is no place, and a free record.
 -- Assumes nothing.
 use Prim.Native.Nat.{ℕ}
 use mathlib.Core.Bool.{cond}
 use mathlib.Core.List.{List}
 use mathlib.Core.Path.{_≡_}
 use lib.Dec.{eqb}
-use lib.ListN.{length, set}
+use lib.ListN.{length, getD, set}
 use Rattle.terms.specs.Reply.{Reply, onAccept}
+use Rattle.record.specs.Life.{free}
 use Rattle.record.specs.declared.Record.{Record}
 use Rattle.array.specs.Admission.{Admission}
 use Rattle.array.specs.Answers.{openedReply, admittedReply, steppedReply, collectedReply}
@@ -50,6 +51,7 @@ pub record AdmissionIs (d : Admission) (table : List Record) (o : admission.Admi
   pub answer : o .answer ≡ admittedOf (d .reply)
   pub change : set table (o .place) (o .«record») ≡ d .table
   pub place : o .place ≡ onAccept (d .reply .number) (d .reply .first) (length table)
+  pub stands : o .«record» ≡ getD (d .table) (o .place) free
   pub work-left : work ≡ d .work
 
 -- step i: its answer, the record and its place, the work store and the image
@@ -58,6 +60,7 @@ pub record SteppingIs (d : Stepping) (table : List Record) (i : ℕ) (o : steppi
   pub answer : o .answer ≡ steppedOf (d .reply)
   pub change : set table (o .place) (o .«record») ≡ d .table
   pub place : o .place ≡ onAccept (d .reply .number) i (length table)
+  pub stands : o .«record» ≡ getD (d .table) (o .place) free
   pub work-left : work ≡ d .work
   pub image-left : image ≡ d .image
 
@@ -67,4 +70,5 @@ pub record CollectionIs (d : Collection) (table : List Record) (i : ℕ) (o : co
   pub answer : o .answer ≡ collectedOf (d .reply)
   pub change : set table (o .place) (o .«record») ≡ d .table
   pub place : o .place ≡ onAccept (d .reply .number) i (length table)
+  pub stands : o .«record» ≡ getD (d .table) (o .place) free
   pub result-left : result ≡ d .result

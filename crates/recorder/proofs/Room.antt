@@ -1,19 +1,19 @@
 -- Every answer of the functions has room in one packed number: a record is below 8, a graph at most 6, a count at most 2n+3 and so 17, a stripe at
 -- most 1,024 and a byte at most 512.
 -- Assumes nothing.
-use Prim.Native.Nat.{ℕ, _+_, _-_, _*_, _≤_}
+use Prim.Native.Nat.{ℕ, _+_, _*_, _≤_}
 use mathlib.Core.Bool.{Bool, true, false, cond, not, _&&_, _||_}
-use mathlib.Core.List.{List, [], _∷_}
+use mathlib.Core.List.{List}
 use mathlib.Core.Path.{_≡_, refl}
 use native.Mathlib.Omega.{arith}
 use lib.Dec.{eqb, leb}
 use lib.ListN.{getD}
-use borrow.Author.Tests.{eqb-true, eqb-false, ne-eqb, leb-true, leb-false, not-false}
+use borrow.Author.Tests.{eqb-true, ne-eqb, leb-true, not-false}
 use Rattle.terms.specs.Lists.{every}
 use Rattle.terms.specs.Reply.{Reply, accepted, refused, onAccept}
 use Rattle.terms.proofs.Lists.{every-elim}
 use Rattle.terms.proofs.Rows.{and-left, and-right, or-false-left}
-use Rattle.geometry.specs.Limits.{beyondState, isLost}
+use Rattle.geometry.specs.Limits.{beyondState}
 use Rattle.geometry.specs.Report.{reporting, reportRefusal}
 use Rattle.geometry.specs.Store.{workWrong}
 use Rattle.geometry.specs.declared.Geometry.{Geometry}
@@ -24,14 +24,14 @@ use Rattle.graph.specs.Choice.{choose, chooseRead, chooseWrite}
 use Rattle.graph.specs.Steps.{stepOf}
 use Rattle.parity.specs.Scan.{idleScanReply, nothingHeld}
 use Rattle.parity.proofs.Small.{Small, firstRow-le, disagreement-small, scan-small, idle-small}
-use Rattle.record.specs.Life.{free, isFree, isOpen, isFinished, isWrite, unitsOf, missingIn, afresh}
+use Rattle.record.specs.Life.{free, isFinished, isWrite, unitsOf, missingIn, afresh}
 use Rattle.record.specs.Sound.{held, sound, soundRecord, apart, legalRecord, legalChosen, rightGraph, rightSteps, rightCount, lacksNone}
 use Rattle.record.specs.declared.Record.{Record}
 use Rattle.array.specs.Admission.{admission}
 use Rattle.array.specs.Collection.{collection, collecting}
 use Rattle.array.specs.Lent.{tableWrong}
 use Rattle.array.specs.Opening.{opening}
-use Rattle.array.specs.Refusals.{openRefusal, admitRefusal, stepRefusal, collectRefusal, scanRefusal, resultShort}
+use Rattle.array.specs.Refusals.{openRefusal, admitRefusal, stepRefusal, collectRefusal, scanRefusal}
 use Rattle.array.specs.Scan.{scanReply}
 use Rattle.array.specs.Stepping.{Stepping, stepping, accepting, meetsOut}
 use Rattle.array.proofs.Passed.{passed, table-length, admit-passed, collect-passed}

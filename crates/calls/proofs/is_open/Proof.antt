@@ -1,6 +1,5 @@
 -- `calls::is_open` meets its contract, by the case of the answer.
 -- Assumes nothing.
-use mathlib.Core.Path.{refl}
 use borrow.Author.Needs.{needs}
 use Rattle.calls.proofs.is_open.Statement.{statement}
 use Rattle.calls.proofs.is_open.Tie as tie

@@ -1,6 +1,6 @@
 -- `recorder::coppicetune_scan` meets its contract: the answer has room, and is packed.
 -- Assumes nothing.
-use mathlib.Core.Path.{_≡_, ap, _∙_}
+use mathlib.Core.Path.{ap, _∙_}
 use borrow.Author.Needs.{needs}
 use Rattle.geometry.specs.declared.State.{State}
 use Rattle.recorder.specs.Packing.{packed}
