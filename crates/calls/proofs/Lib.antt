@@ -2,3 +2,4 @@
 pub mod States
 pub mod Bridge
 pub mod Passing
+pub mod Outcomes

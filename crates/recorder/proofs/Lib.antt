@@ -2,3 +2,4 @@
 pub mod Unpacking
 pub mod Cases
 pub mod Room
+pub mod Outcomes

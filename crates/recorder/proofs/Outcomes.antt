@@ -1,0 +1,33 @@
+-- Any two outcomes that the contract of one of the engine's C functions allows are equal. (The others answer one number, by an equation.)
+-- Assumes nothing.
+use Prim.Native.Nat.{ℕ}
+use mathlib.Core.List.{List}
+use mathlib.Core.Path.{_≡_}
+use Rattle.geometry.specs.Report.{Reporting}
+use Rattle.geometry.specs.declared.State.{State}
+use Rattle.record.specs.declared.Record.{Record}
+use Rattle.array.specs.Admission.{Admission}
+use Rattle.array.specs.Collection.{Collection}
+use Rattle.array.specs.Opening.{Opening}
+use Rattle.array.specs.Stepping.{Stepping}
+use Rattle.recorder.specs.Engine.{OpeningPacked, AdmissionPacked, SteppingPacked, ReportingPacked, CollectionPacked}
+
+module _ {d : Opening} {a b : ℕ} {s z : State} {t u : List Record} where
+  pub open-one : OpeningPacked d a s t → OpeningPacked d b z u → (a ≡ b) × (s ≡ z) × (t ≡ u)
+  open-one p q = (cc, cc, cc)
+
+module _ {d : Admission} {a b : ℕ} {t u : List Record} {v w : List ℕ} where
+  pub admit-one : AdmissionPacked d a t v → AdmissionPacked d b u w → (a ≡ b) × (t ≡ u) × (v ≡ w)
+  admit-one p q = (cc, cc, cc)
+
+module _ {d : Stepping} {a b : ℕ} {t u : List Record} {v w m n : List ℕ} where
+  pub step-one : SteppingPacked d a t v m → SteppingPacked d b u w n → (a ≡ b) × (t ≡ u) × (v ≡ w) × (m ≡ n)
+  step-one p q = (cc, cc, cc, cc)
+
+module _ {d : Reporting} {a b : ℕ} {s z : State} where
+  pub report-one : ReportingPacked d a s → ReportingPacked d b z → (a ≡ b) × (s ≡ z)
+  report-one p q = (cc, cc)
+
+module _ {d : Collection} {a b : ℕ} {t u : List Record} {m n : List ℕ} where
+  pub collect-one : CollectionPacked d a t m → CollectionPacked d b u n → (a ≡ b) × (t ≡ u) × (m ≡ n)
+  collect-one p q = (cc, cc, cc)
