@@ -6,7 +6,6 @@ use mathlib.Core.Bool.{cond}
 use mathlib.Core.List.{List}
 use mathlib.Core.Path.{_≡_, refl, sym, ap, ap₂, _∙_}
 use lib.Dec.{eqb}
-use lib.ListN.{getD}
 use Rattle.terms.specs.Reply.{Reply}
 use Rattle.geometry.specs.Answers.{placedReply, heldReply}
 use Rattle.geometry.specs.Report.{Reporting, ReportingIs}
@@ -22,7 +21,6 @@ use Rattle.graph.specs.declared.steps.Action.{Action}
 use Rattle.graph.specs.declared.steps.Action.the-variants as action
 use Rattle.parity.specs.Scan.{Named, reply, scanOf}
 use Rattle.parity.specs.declared.Scan.{Scan}
-use Rattle.record.specs.Life.{free}
 use Rattle.record.specs.declared.Record.{Record}
 use Rattle.array.specs.Admission.{Admission}
 use Rattle.array.specs.Collection.{Collection}
