@@ -1,5 +1,6 @@
 -- `recorder::packing::admitted` meets its contract: each answer is packed by its number and values.
 -- Assumes nothing.
+use native.Mathlib.Omega.{arith}
 use borrow.Author.Needs.{needs}
 use Rattle.array.specs.Answers.{admittedReply}
 use Rattle.recorder.proofs.Cases.{room-of, packed-as}
@@ -10,13 +11,13 @@ enum-known-answer : tie.Need-enum-known-answer
 enum-known-answer c = search needs
 
 pack-requires : tie.Need-pack-requires
-pack-requires c κs = room-of admittedReply (c .before .answer .given .1) (c .before .before .before .pre)
+pack-requires c κs = omega (arith, room-of admittedReply (c .before .answer .given .1) (c .before .before .before .pre))
 
 enum-known-answer-2 : tie.Need-enum-known-answer-2
 enum-known-answer-2 c = search needs
 
 pack-requires-2 : tie.Need-pack-requires-2
-pack-requires-2 c κs = room-of admittedReply (c .before .answer2 .given .1) (c .before .before .before .pre)
+pack-requires-2 c κs = omega (arith, room-of admittedReply (c .before .answer2 .given .1) (c .before .before .before .pre))
 
 returns : tie.Need-returns
 returns c = packed-as admittedReply (c .before .before .answer .given .1) (c .pack .ensures)

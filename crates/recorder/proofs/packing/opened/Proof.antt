@@ -1,5 +1,6 @@
 -- `recorder::packing::opened` meets its contract: each answer is packed by its number and values.
 -- Assumes nothing.
+use native.Mathlib.Omega.{arith}
 use borrow.Author.Needs.{needs}
 use Rattle.array.specs.Answers.{openedReply}
 use Rattle.recorder.proofs.Cases.{room-of, packed-as}
@@ -16,13 +17,13 @@ enum-known-answer : tie.Need-enum-known-answer
 enum-known-answer c = search needs
 
 pack-requires-2 : tie.Need-pack-requires-2
-pack-requires-2 c κs = room-of openedReply (c .before .answer .given .1) (c .before .before .before .pre)
+pack-requires-2 c κs = omega (arith, room-of openedReply (c .before .answer .given .1) (c .before .before .before .pre))
 
 enum-known-answer-2 : tie.Need-enum-known-answer-2
 enum-known-answer-2 c = search needs
 
 pack-requires-3 : tie.Need-pack-requires-3
-pack-requires-3 c κs = room-of openedReply (c .before .answer2 .given .1) (c .before .before .before .pre)
+pack-requires-3 c κs = omega (arith, room-of openedReply (c .before .answer2 .given .1) (c .before .before .before .pre))
 
 returns : tie.Need-returns
 returns c = packed-as openedReply (c .before .enum-told .given .1) (c .pack .ensures)

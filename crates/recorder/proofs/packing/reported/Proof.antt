@@ -1,5 +1,6 @@
 -- `recorder::packing::reported` meets its contract: each answer is packed by its number and values.
 -- Assumes nothing.
+use native.Mathlib.Omega.{arith}
 use borrow.Author.Needs.{needs}
 use Rattle.geometry.specs.Report.{reportedReply}
 use Rattle.recorder.proofs.Cases.{room-of, packed-as}
@@ -16,7 +17,7 @@ enum-known-answer : tie.Need-enum-known-answer
 enum-known-answer c = search needs
 
 pack-requires-2 : tie.Need-pack-requires-2
-pack-requires-2 c κs = room-of reportedReply (c .before .answer .given .1) (c .before .before .before .pre)
+pack-requires-2 c κs = omega (arith, room-of reportedReply (c .before .answer .given .1) (c .before .before .before .pre))
 
 returns : tie.Need-returns
 returns c = packed-as reportedReply (c .before .enum-told .given .1) (c .pack .ensures)

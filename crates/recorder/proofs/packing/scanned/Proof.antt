@@ -1,5 +1,6 @@
 -- `recorder::packing::scanned` meets its contract: each answer is packed by its number and values.
 -- Assumes nothing.
+use native.Mathlib.Omega.{arith}
 use borrow.Author.Needs.{needs}
 use Rattle.parity.specs.Scan.{reply}
 use Rattle.recorder.proofs.Cases.{room-of, packed-as}
@@ -17,14 +18,14 @@ enum-known-answer c = search needs
 
 pack-requires-2 : tie.Need-pack-requires-2
 unfolding reply
-pack-requires-2 c κs = room-of reply (c .before .answer .given .1) (c .before .before .before .pre)
+pack-requires-2 c κs = omega (arith, room-of reply (c .before .answer .given .1) (c .before .before .before .pre))
 
 enum-known-answer-2 : tie.Need-enum-known-answer-2
 enum-known-answer-2 c = search needs
 
 pack-requires-3 : tie.Need-pack-requires-3
 unfolding reply
-pack-requires-3 c κs = room-of reply (c .before .answer2 .given .1) (c .before .before .before .pre)
+pack-requires-3 c κs = omega (arith, room-of reply (c .before .answer2 .given .1) (c .before .before .before .pre))
 
 returns : tie.Need-returns
 unfolding reply
