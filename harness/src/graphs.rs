@@ -20,8 +20,19 @@ extern "C" {
         table: *const u64,
         table_len: usize,
     ) -> bool;
-    fn table_test_lowest_free(table: *const u64, table_len: usize) -> u64;
-    fn table_test_held(table: *const u64, table_len: usize, stripe: u64) -> bool;
+    fn table_test_lowest_free(
+        state: *const u64,
+        state_len: usize,
+        table: *const u64,
+        table_len: usize,
+    ) -> u64;
+    fn table_test_held(
+        state: *const u64,
+        state_len: usize,
+        table: *const u64,
+        table_len: usize,
+        stripe: u64,
+    ) -> bool;
 }
 
 /// A graph as the library is asked of it: any numbers at all. `missing` is a position, or above `units` for none.
@@ -105,12 +116,12 @@ pub fn sound(state: &State, table: &[Record]) -> bool {
     unsafe { table_test_sound(state, state_len, table, len) }
 }
 
-pub fn lowest_free(table: &[Record]) -> u64 {
-    let (table, len) = table_numbers(table);
-    unsafe { table_test_lowest_free(table, len) }
+pub fn lowest_free(state: &State, table: &[Record]) -> u64 {
+    let ((state, state_len), (table, len)) = (state_numbers(state), table_numbers(table));
+    unsafe { table_test_lowest_free(state, state_len, table, len) }
 }
 
-pub fn held(table: &[Record], stripe: u64) -> bool {
-    let (table, len) = table_numbers(table);
-    unsafe { table_test_held(table, len, stripe) }
+pub fn held(state: &State, table: &[Record], stripe: u64) -> bool {
+    let ((state, state_len), (table, len)) = (state_numbers(state), table_numbers(table));
+    unsafe { table_test_held(state, state_len, table, len, stripe) }
 }

@@ -14,6 +14,9 @@ pub mod Handed
 pub mod Bytes
 -- What the code's proofs rest on.
 -- The tests: rows 1 to 4, and then a call's own
+pub mod Choices
+pub mod Given
+pub mod Told
 pub mod Lending
 pub mod Chains
 pub mod Own
@@ -25,7 +28,6 @@ pub mod Performed
 pub mod Within
 -- What an accepted call rests on, and what the calls hand back
 pub mod Accepted
-pub mod Keeping
 pub mod Answered
 pub mod Looks
 pub mod Opened

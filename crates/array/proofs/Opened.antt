@@ -19,26 +19,24 @@ use Rattle.parity.specs.Parity.{passes, rightParity, disagreement}
 use Rattle.parity.specs.Scan.{Named, scanOf, reply, lookReply, idleScanReply, idleScanRefusal, nothingHeld}
 use Rattle.parity.specs.declared.Scan.{Scan}
 use Rattle.parity.proofs.Replies.{last-row, idle-all}
-use Rattle.record.specs.Life.{recordsOf}
-use Rattle.record.specs.declared.Table.{Table}
+use Rattle.record.specs.declared.Record.{Record}
 use Rattle.array.specs.Lent.{tableWrong}
 use Rattle.array.specs.Opening.{opening, zeroState}
 use Rattle.array.specs.Outcomes.{OpeningIs, openedOf}
 use Rattle.array.specs.Refusals.{opened, openRefusal}
 use Rattle.array.specs.declared.answers.Opened.{Opened}
 use Rattle.array.specs.declared.answers.Opening as handed
-use Rattle.array.proofs.Lending.{length-records}
 
-module _ (g : Geometry) (out : ℕ) (t : Table) (work image : List ℕ) where
+module _ (g : Geometry) (out : ℕ) (t : List Record) (work image : List ℕ) where
   abbrev st : State
   st = opened g out
 
   abbrev number : ℕ
-  number = openRefusal g out (recordsOf t) work image
+  number = openRefusal g out t work image
 
   -- refused by a number that has no values
   pub opening-refused : (k : ℕ) → number ≡ k → ¬ (k ≡ 0) → ¬ (k ≡ 13) → (o : handed.Opening)
-      → o .answer ≡ Opened.Refused k → o .state ≡ zeroState → OpeningIs (opening g out (recordsOf t) work image) o
+      → o .answer ≡ Opened.Refused k → o .state ≡ zeroState → OpeningIs (opening g out t work image) o
   unfolding opening openedOf
   opening-refused k e h n o a q =
       let no-accept : eqb k 0 ≡ false = ne-eqb k 0 h in
@@ -50,12 +48,12 @@ module _ (g : Geometry) (out : ℕ) (t : Table) (work image : List ℕ) where
       }
 
   pub opening-accepted : number ≡ 0 → (o : State) → o ≡ opened g out
-      → OpeningIs (opening g out (recordsOf t) work image) (record { answer = Opened.Open; state = o })
+      → OpeningIs (opening g out t work image) (record { answer = Opened.Open; state = o })
   unfolding opening openedOf
   opening-accepted e o q = record { reply = rw e; answer = rw e; state = rw e q }
 
   pub opening-disagrees : number ≡ 13 → (s b : ℕ) → record { number = 13; first = s; second = b } ≡ disagreement (g .cards) (g .stripes) (g .block) image nothingHeld
-      → (o : State) → o ≡ zeroState → OpeningIs (opening g out (recordsOf t) work image) (record { answer = Opened.Disagrees s b; state = o })
+      → (o : State) → o ≡ zeroState → OpeningIs (opening g out t work image) (record { answer = Opened.Disagrees s b; state = o })
   unfolding opening openedOf
   opening-disagrees e s b d o q =
       record { reply = rw e d; answer = rw e (ap openedOf d); state = rw e q }
@@ -74,14 +72,14 @@ module _ (g : Geometry) (out : ℕ) (t : Table) (work image : List ℕ) where
       image-is : imageWrong st image ≡ false
       image-is = image-right st image (state-bounds st b) i
 
-      pub open-table : ¬ (t .len ≡ st .records) → number ≡ 2
+      pub open-table : ¬ (length t ≡ st .records) → number ≡ 2
       unfolding openRefusal opened firstRow tableWrong
-      open-table h = simp (b, image-is, ne-eqb (length (recordsOf t)) (g .records) (λ q. h (sym (length-records t) ∙ q)))
+      open-table h = simp (b, image-is, ne-eqb (length t) (g .records) h)
 
-      module _ (l : t .len ≡ st .records) where
-        table-is : tableWrong st (recordsOf t) ≡ false
+      module _ (l : length t ≡ st .records) where
+        table-is : tableWrong st t ≡ false
         unfolding tableWrong
-        table-is = simp (eq-eqb (length (recordsOf t)) (st .records) (length-records t ∙ l))
+        table-is = simp (eq-eqb (length t) (st .records) l)
 
         pub open-work : ¬ (length work ≡ workSizeIn st) → number ≡ 2
         unfolding openRefusal opened firstRow

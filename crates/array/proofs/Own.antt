@@ -4,34 +4,20 @@ use Prim.Native.Nat.{ℕ, _≤_, _<_}
 use mathlib.Core.Bool.{Bool, true, false, cond, not}
 use mathlib.Core.List.{List, [], _∷_}
 use mathlib.Core.Path.{_≡_, sym, ap, _∙_}
-use native.Mathlib.Omega.{arith}
 use lib.Dec.{leb, eqb}
 use lib.ListN.{length, getD}
 use borrow.Author.Tests.{eq-eqb, ne-eqb, le-leb, lt-leb}
 use Rattle.terms.specs.Reply.{row, firstRow}
 use Rattle.geometry.specs.Asked.{imageSizeIn}
-use Rattle.geometry.specs.Limits.{beyondState}
 use Rattle.geometry.specs.declared.State.{State}
-use Rattle.geometry.proofs.Lengths.{state-bounds}
-use Rattle.graph.specs.Asked.{fewUnits}
-use Rattle.record.specs.Asked.{fewIn, readyIn}
+use Rattle.record.specs.Asked.{readyIn}
 use Rattle.record.specs.Life.{free, isOpen, isFinished, unitsOf}
 use Rattle.record.specs.Sound.{held, legalMask, lowestFree}
 use Rattle.record.specs.declared.Record.{Record}
 use Rattle.array.specs.Lent.{lentRefusal}
 use Rattle.array.specs.Refusals.{admitRefusal, stepRefusal, collectRefusal, payloadWrong, stepReady, resultShort}
 use Rattle.array.proofs.Chains.{admit-chain, step-chain, collect-chain}
-use Rattle.array.proofs.Passed.{passed}
-
--- where rows 1 to 4 refuse nothing, the limits hold
-pub lent-inside : (st : State) (table : List Record) (work image : ℕ) → lentRefusal st table work image ≡ 0 → beyondState st ≡ false
-unfolding lentRefusal
-lent-inside st table work image e = passed (beyondState st) 0 _ e .0
-
--- so a stripe's units are few
-pub lent-few : (st : State) (table : List Record) (work image : ℕ) → lentRefusal st table work image ≡ 0 → fewIn st ≡ true
-unfolding fewUnits
-lent-few st table work image e = le-leb (unitsOf st) 7 (omega (arith, state-bounds st (lent-inside st table work image e)))
+use Rattle.array.proofs.Told.{lent-fine, few-units}
 
 -- a chain whose first part refuses, and one whose first part does not
 first-refuses : (first own whole : ℕ) → whole ≡ cond (eqb first 0) own first → ¬ (first ≡ 0) → first ≡ whole
@@ -56,7 +42,7 @@ module _ (st : State) (table : List Record) (work image : List ℕ) (i k : ℕ)
 
     ready-is : (r : Record) → readyIn st r k ≡ stepReady st r k
     unfolding readyIn stepReady
-    ready-is r = rw (lent-few st table (length work) (length image) (sym lent ∙ z))
+    ready-is r = rw (few-units st table (lent-fine st table (length work) (length image) (sym lent ∙ z)))
 
     pub step-range : st .records ≤ i → 5 ≡ stepRefusal st table work image i k
     unfolding firstRow

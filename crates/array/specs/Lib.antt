@@ -10,3 +10,4 @@ pub mod Answers
 pub mod Premises
 pub mod Sums
 pub mod Outcomes
+pub mod Marked

@@ -1,21 +1,23 @@
 // Collect: what a finished request read is handed over, and its record freed.
 // Assumes nothing.
-ghost use mathlib.Core.Bool.{not, _&&_};
+ghost use mathlib.Core.Bool.{false, not, _&&_};
 ghost use mathlib.Core.Path.{_≡_};
 ghost use Prim.Native.Nat.{_≤_};
 ghost use lib.Dec.{ltb};
 ghost use Rattle.array.specs.Collection.{collection, handOver};
 ghost use Rattle.array.specs.Lent.{unitBytes};
+ghost use Rattle.array.specs.Marked.{CollectRefusalMarked, CollectionMarked};
 ghost use Rattle.array.specs.Outcomes.{CollectionIs};
 ghost use Rattle.array.specs.Premises.{Keeping};
-ghost use Rattle.array.specs.Refusals.{collectRefusal};
 ghost use Rattle.record.specs.Life.{isWrite, recordsOf};
 use crate::answers::Collected;
 use crate::answers::Collection;
+use crate::refusals::astray;
 use crate::refusals::lent_refusal;
 use crate::refusals::unit_bytes;
 use block::carry;
 use geometry::State;
+use record::Marks;
 use record::Record;
 use record::Table;
 use record::free;
@@ -51,19 +53,22 @@ fn result_short(state: State, r: Record, result: usize) -> bool
 }
 
 // The number by which collect is refused; 0: none. It isn't lent the image.
-fn collect_refusal(state: State, table: Table, work: &[u8], i: u64, result: &[u8]) -> u64
-    ensures { λ r. ⌜ r ≡ collectRefusal state (recordsOf table) (now (work .entry)) i (now (result .entry)) ⌝ }
+fn collect_refusal(state: State, marks: Marks, r: Record, work: &[u8], i: u64, result: &[u8]) -> u64
+    ensures refuses { λ n. ⌜ CollectRefusalMarked state marks r (now (work .entry)) i (now (result .entry)) n ⌝ }
+    ensures passes { λ n. ⌜ (n ≡ 0 → isWrite r ≡ false → Keeping state i (r .mask) (now (result .entry)) (now (work .entry))) ⌝ }
 {
-    let first = lent_refusal(state, table, work.len(), state.image_size());
+    let first = lent_refusal(state, marks, work.len(), state.image_size());
     if first != 0 {
         return first;
     }
     if state.records <= i {
         return 5;
     }
-    let r = table.at(i);
     if r.phase != 2 {
         return 10;
+    }
+    if astray(state, r) {
+        return 3;
     }
     if result_short(state, r, result.len()) {
         return 7;
@@ -71,19 +76,25 @@ fn collect_refusal(state: State, table: Table, work: &[u8], i: u64, result: &[u8
     0
 }
 
-// Collects finished record i: the answer, and the freed record, with its place.
-pub fn collect(state: State, table: Table, work: &[u8], i: u64, result: &mut [u8]) -> Collection
-    ensures { λ r. ⌜ CollectionIs (collection state (recordsOf table) (now (work .entry)) i (now (result .entry))) (recordsOf table) i r (now (result .exit)) ⌝ }
+// Collects finished record i, which is r, of a table by its marks: the answer, and the freed record, with its place.
+pub fn collect_marked(
+    state: State,
+    marks: Marks,
+    r: Record,
+    work: &[u8],
+    i: u64,
+    result: &mut [u8],
+) -> Collection
+    ensures { λ o. ⌜ CollectionMarked state marks r (now (work .entry)) i (now (result .entry)) o (now (result .exit)) ⌝ }
 {
-    let number = collect_refusal(state, table, work, i, result);
+    let number = collect_refusal(state, marks, r, work, i, result);
     if number != 0 {
         return Collection {
             answer: Collected::Refused(number),
-            place: table.len,
+            place: marks.len,
             record: free(),
         };
     }
-    let r = table.at(i);
     if r.write != 1 {
         hand_over(state, i, r.mask, work, result);
     }
@@ -92,4 +103,13 @@ pub fn collect(state: State, table: Table, work: &[u8], i: u64, result: &mut [u8
         place: i,
         record: free(),
     }
+}
+
+// Collects finished record i: the answer, and the freed record, with its place.
+pub fn collect(state: State, table: Table, work: &[u8], i: u64, result: &mut [u8]) -> Collection
+    ensures { λ r. ⌜ CollectionIs (collection state (recordsOf table) (now (work .entry)) i (now (result .entry))) (recordsOf table) i r (now (result .exit)) ⌝ }
+{
+    let marks = table.marks(state);
+    let r = table.at(i);
+    collect_marked(state, marks, r, work, i, result)
 }

@@ -1,6 +1,7 @@
 // Open: a geometry and a card that is out, or none, become a state; with none out the parity is right throughout.
 // Assumes nothing.
 ghost use mathlib.Core.Path.{_≡_};
+ghost use Rattle.array.specs.Marked.{OpeningSized};
 ghost use Rattle.array.specs.Opening.{opening, zeroState};
 ghost use Rattle.array.specs.Outcomes.{OpeningIs};
 ghost use Rattle.array.specs.Refusals.{opened};
@@ -53,9 +54,9 @@ fn refused(number: u64) -> Opening
     }
 }
 
-// Opens an array: the answer and the new state, all zero if refused. Who lends the table frees every record where it is accepted.
-pub fn open(geometry: Geometry, out: u64, table: Table, work: &[u8], image: &[u8]) -> Opening
-    ensures { λ r. ⌜ OpeningIs (opening geometry out (recordsOf table) (now (work .entry)) (now (image .entry))) r ⌝ }
+// Opens an array over a table of so many records: the answer and the new state, all zero if refused.
+pub fn open_sized(geometry: Geometry, out: u64, len: u64, work: &[u8], image: &[u8]) -> Opening
+    ensures { λ r. ⌜ OpeningSized geometry out len (now (work .entry)) (now (image .entry)) r ⌝ }
 {
     let state = opened(geometry, out);
     if state.beyond() {
@@ -64,7 +65,7 @@ pub fn open(geometry: Geometry, out: u64, table: Table, work: &[u8], image: &[u8
     if image.len() != state.image_size() {
         return refused(2);
     }
-    if table.len != state.records {
+    if len != state.records {
         return refused(2);
     }
     if work.len() != state.work_size() {
@@ -87,4 +88,11 @@ pub fn open(geometry: Geometry, out: u64, table: Table, work: &[u8], image: &[u8
         },
         Scan::Refused(number) => refused(number),
     }
+}
+
+// Opens an array: the answer and the new state, all zero if refused. Who lends the table frees every record where it is accepted.
+pub fn open(geometry: Geometry, out: u64, table: Table, work: &[u8], image: &[u8]) -> Opening
+    ensures { λ r. ⌜ OpeningIs (opening geometry out (recordsOf table) (now (work .entry)) (now (image .entry))) r ⌝ }
+{
+    open_sized(geometry, out, table.len, work, image)
 }

@@ -21,8 +21,10 @@ use geometry::State;
 use geometry::report::Reported;
 use parity::Scan;
 use record::Record;
-use table::copied;
+use table::at;
+use table::count;
 use table::freed;
+use table::marked;
 use table::replace;
 
 // Whether an opening is accepted.
@@ -46,8 +48,8 @@ pub fn open(
 ) -> Opening
     ensures { λ r. ⌜ OpeningLent (opening geometry out (now (table .entry)) (now (work .entry)) (now (image .entry))) (r .answer) (r .state) (now (table .exit)) ⌝ }
 {
-    let t = copied(table);
-    let made = array::open(geometry, out, t, work, image);
+    let len = count(table);
+    let made = array::open_sized(geometry, out, len, work, image);
     freed(table, is_open(made.answer));
     made
 }
@@ -65,8 +67,8 @@ pub fn admit(
 ) -> Admitted
     ensures { λ r. ⌜ AdmissionLent (admission state (now (table .entry)) (now (work .entry)) (now (image .entry)) write stripe mask (now (payload .entry))) r (now (table .exit)) (now (work .exit)) ⌝ }
 {
-    let t = copied(table);
-    let made = array::admit(state, t, work, image, write, stripe, mask, payload);
+    let marks = marked(table, state);
+    let made = array::admit_marked(state, marks, work, image, write, stripe, mask, payload);
     replace(table, made.place, made.record);
     made.answer
 }
@@ -82,8 +84,9 @@ pub fn step(
 ) -> Stepped
     ensures { λ r. ⌜ SteppingLent (stepping state (now (table .entry)) (now (work .entry)) (now (image .entry)) i k) r (now (table .exit)) (now (work .exit)) (now (image .exit)) ⌝ }
 {
-    let t = copied(table);
-    let made = array::step(state, t, work, image, i, k);
+    let marks = marked(table, state);
+    let r = at(table, i);
+    let made = array::step_marked(state, marks, r, work, image, i, k);
     replace(table, made.place, made.record);
     made.answer
 }
@@ -108,8 +111,9 @@ pub fn collect(
 ) -> Collected
     ensures { λ r. ⌜ CollectionLent (collection state (now (table .entry)) (now (work .entry)) i (now (result .entry))) r (now (table .exit)) (now (result .exit)) ⌝ }
 {
-    let t = copied(table);
-    let made = array::collect(state, t, work, i, result);
+    let marks = marked(table, state);
+    let r = at(table, i);
+    let made = array::collect_marked(state, marks, r, work, i, result);
     replace(table, made.place, made.record);
     made.answer
 }
@@ -118,6 +122,6 @@ pub fn collect(
 pub fn scan(state: State, table: &[Record], image: &[u8]) -> Scan
     ensures { λ r. ⌜ (reply r ≡ scanReply state (now (table .entry)) (now (image .entry))) × Named r ⌝ }
 {
-    let t = copied(table);
-    array::scan(state, t, image)
+    let marks = marked(table, state);
+    array::scan_marked(state, marks, image)
 }

@@ -1,18 +1,16 @@
 -- A state, a record and a table as lists of numbers, for tests from outside: a record is eight numbers, in document 01's order.
 -- Assumes nothing.
 use Prim.Native.Nat.{ℕ, _+_, _*_, _/_}
-use mathlib.Core.Bool.{cond}
 use mathlib.Core.List.{List}
-use lib.Dec.{ltb}
 use lib.ListN.{length, getD}
 use Rattle.terms.specs.Lists.{tabulate}
 use Rattle.geometry.specs.declared.State.{State}
 use Rattle.graph.specs.declared.order.Judged.{Judged}
 use Rattle.graph.specs.declared.order.Judged.the-variants.{Wrong, Wanting, Whole}
 use Rattle.graph.specs.Steps.{Step, rd, xr, wr, nil}
-use Rattle.record.specs.Life.{free}
+use Rattle.record.specs.Marks.{marksOf}
+use Rattle.record.specs.declared.Marks.{Marks}
 use Rattle.record.specs.declared.Record.{Record}
-use Rattle.record.specs.declared.Table.{Table}
 
 -- a judgement of done steps: 0 wrong, 1 a step is wanting, 2 none is
 unfoldable pub judgedNumber : Judged → ℕ
@@ -58,6 +56,9 @@ recordFrom l i =
       count = getD l (8 * i + 7) 0;
     }
 
-unfoldable pub tableFrom : List ℕ → Table
-tableFrom l =
-    record { records = tabulate 8 (λ i. cond (ltb i (length l / 8)) (recordFrom l i) free); len = length l / 8 }
+unfoldable pub tableFrom : List ℕ → List Record
+tableFrom l = tabulate (length l / 8) (recordFrom l)
+
+-- the marks of such a table in such a state
+unfoldable pub marksFrom : List ℕ → List ℕ → Marks
+marksFrom numbers all = marksOf (stateFrom numbers) (tableFrom all)

@@ -2,13 +2,11 @@
 ghost use mathlib.Core.Path.{_≡_};
 ghost use Prim.Native.Nat.{_+_, _*_, _≤_, min};
 ghost use lib.ListN.{length, getD};
-ghost use Rattle.record.specs.Asked.{soundIn};
-ghost use Rattle.record.specs.Life.{recordsOf};
-ghost use Rattle.record.specs.Sound.{held, lowestFree};
-ghost use Rattle.graph_test.specs.Numbers.{stateFrom, recordFrom, tableFrom};
+ghost use Rattle.record.specs.Marks.{soundMarks, heldMarks, freeMarks};
+ghost use Rattle.graph_test.specs.Numbers.{stateFrom, recordFrom, marksFrom};
 use geometry::State;
+use record::Marks;
 use record::Record;
-use record::Table;
 
 // The number at i, and 0 past the end.
 fn at(numbers: &[u64], i: usize) -> u64
@@ -61,40 +59,43 @@ fn capped(len: usize) -> usize
     8
 }
 
-fn table(numbers: &[u64]) -> Table
-    ensures { λ r. ⌜ r ≡ tableFrom (now (numbers .entry)) ⌝ }
+// The marks of the table of all whole records.
+fn marks(numbers: &[u64], all: &[u64]) -> Marks
+    ensures { λ r. ⌜ r ≡ marksFrom (now (numbers .entry)) (now (all .entry)) ⌝ }
 {
-    let len = numbers.len() / 8;
+    let state = state(numbers);
+    let len = all.len() / 8;
     let top = capped(len);
-    let mut records = [record::free(); 8];
+    let mut marks = [1024; 8];
     let mut i = 0;
     while i < top {
-        records[i] = record(numbers, i);
+        let r = record(all, i);
+        marks[i] = r.mark(state);
         i += 1;
     }
-    Table {
-        records,
+    Marks {
+        marks,
         len: len as u64,
     }
 }
 
 #[no_mangle]
 pub extern "C" fn table_test_sound(numbers: &[u64], all: &[u64]) -> bool
-    ensures { λ r. ⌜ r ≡ soundIn (stateFrom (now (numbers .entry))) (tableFrom (now (all .entry))) ⌝ }
+    ensures { λ r. ⌜ r ≡ soundMarks (marksFrom (now (numbers .entry)) (now (all .entry))) ⌝ }
 {
-    table(all).is_sound(state(numbers))
+    marks(numbers, all).are_sound()
 }
 
 #[no_mangle]
-pub extern "C" fn table_test_lowest_free(all: &[u64]) -> u64
-    ensures { λ r. ⌜ r ≡ lowestFree (recordsOf (tableFrom (now (all .entry)))) ⌝ }
+pub extern "C" fn table_test_lowest_free(numbers: &[u64], all: &[u64]) -> u64
+    ensures { λ r. ⌜ r ≡ freeMarks (marksFrom (now (numbers .entry)) (now (all .entry))) ⌝ }
 {
-    table(all).lowest_free()
+    marks(numbers, all).lowest_free()
 }
 
 #[no_mangle]
-pub extern "C" fn table_test_held(all: &[u64], stripe: u64) -> bool
-    ensures { λ r. ⌜ r ≡ held (recordsOf (tableFrom (now (all .entry)))) stripe ⌝ }
+pub extern "C" fn table_test_held(numbers: &[u64], all: &[u64], stripe: u64) -> bool
+    ensures { λ r. ⌜ r ≡ heldMarks (marksFrom (now (numbers .entry)) (now (all .entry))) stripe ⌝ }
 {
-    table(all).is_held(stripe)
+    marks(numbers, all).is_held(stripe)
 }

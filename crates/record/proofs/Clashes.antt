@@ -4,8 +4,8 @@ use Prim.Native.Nat.{ℕ, _<_}
 use mathlib.Core.Bool.{true, false, not, _||_}
 use mathlib.Core.Bool as Booleans
 use mathlib.Core.List.{List}
-use mathlib.Core.Logic.{_⊎_, ⊎-elim}
-use mathlib.Core.Path.{_≡_, refl, sym, _∙_}
+use mathlib.Core.Logic.{⊎-elim}
+use mathlib.Core.Path.{_≡_, sym, _∙_}
 use native.Mathlib.Omega.{arith}
 use borrow.Author.Tests.{ltb-true, ltb-false, eqb-true, eqb-false, eq-eqb, not-true}
 use lib.Dec.{ltb, eqb}
@@ -18,16 +18,12 @@ use Rattle.record.specs.Life.{free, isOpen}
 use Rattle.record.specs.Sound.{clash, apart}
 use Rattle.record.specs.declared.Record.{Record}
 
-eqb-sym : (a b : ℕ) → eqb a b ≡ eqb b a
+pub eqb-sym : (a b : ℕ) → eqb a b ≡ eqb b a
 eqb-sym a b = both-ways (eqb a b) (eqb b a) (λ e. eq-eqb b a (sym (eqb-true a b e))) (λ e. eq-eqb a b (sym (eqb-true b a e)))
 
 pub clash-sym : (r q : Record) → clash r q ≡ clash q r
 unfolding clash
 clash-sym r q = rw (Booleans.and-comm (isOpen r) (isOpen q), eqb-sym (r .stripe) (q .stripe))
-
-pub clash-free : (q : Record) → clash free q ≡ false
-unfolding clash
-clash-free q = refl
 
 module _ (l : List Record) where
   pub apart-elim : apart l ≡ true → (i j : ℕ) → i < length l → j < length l → ¬ (i ≡ j) → clash (getD l i free) (getD l j free) ≡ false

@@ -1,6 +1,6 @@
 -- What is known of a sound record that is not free, and what it allows: an open one has a ready step, and its steps can be marked and counted.
 -- Assumes nothing.
-use Prim.Native.Nat.{ℕ, _+_, _-_, _*_, _^_, _≤_, _<_}
+use Prim.Native.Nat.{ℕ, _+_, _*_, _^_, _≤_, _<_}
 use mathlib.Core.Bool.{Bool, true, false, not, _&&_, _||_}
 use mathlib.Core.List.{List}
 use mathlib.Core.Logic.{_⊎_, inl, inr, ⊎-elim}
@@ -20,11 +20,10 @@ use Rattle.graph.proofs.Laws.{ready-elim, progress, member-below}
 use Rattle.graph.specs.Asked.{fewUnits}
 use Rattle.graph.specs.Choice.{choose}
 use Rattle.graph.specs.Order.{ready, complete, closed}
-use Rattle.record.specs.Asked.{fewIn, canCount, canStep, steppedOr, afreshOr, soundIn}
-use Rattle.record.specs.Life.{free, recordsOf, isFree, isOpen, isFinished, isWrite, unitsOf, chosenAt, stepped, afresh}
+use Rattle.record.specs.Asked.{fewIn, canCount, canStep, steppedOr, afreshOr}
+use Rattle.record.specs.Life.{free, isFree, isOpen, isFinished, isWrite, unitsOf, chosenAt, stepped, afresh}
 use Rattle.record.specs.Sound.{allZero, legalMask, legalRecord, legalChosen, rightGraph, rightSteps, lacksNone, rightCount, soundRecord, apart, sound}
 use Rattle.record.specs.declared.Record.{Record}
-use Rattle.record.specs.declared.Table.{Table}
 
 -- the clauses, as facts
 pub record Sound (st : State) (r : Record) : Type 0 where
@@ -140,8 +139,3 @@ module _ (st : State) (l : List Record) (e : sound st l ≡ true) where
   pub sound-apart : apart l ≡ true
   unfolding sound
   sound-apart = and-right (every (soundRecord st) l) (apart l) e
-
--- where the units are few the table by value is sound where its records are
-pub sound-in : (st : State) (t : Table) → fewIn st ≡ true → soundIn st t ≡ sound st (recordsOf t)
-unfolding soundIn
-sound-in st t n = rw n

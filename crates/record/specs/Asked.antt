@@ -3,18 +3,14 @@
 -- Assumes nothing.
 use Prim.Native.Nat.{ℕ, _-_, _^_}
 use mathlib.Core.Bool.{Bool, cond, not, _&&_}
-use mathlib.Core.List.{List}
 use lib.Dec.{ltb}
-use lib.ListN.{getD}
-use Rattle.terms.specs.Lists.{tabulate}
 use Rattle.terms.specs.Sets.{bit}
 use Rattle.geometry.specs.declared.State.{State}
 use Rattle.graph.specs.Asked.{fewUnits}
 use Rattle.graph.specs.Order.{ready}
-use Rattle.record.specs.Life.{free, isOpen, unitsOf, chosenAt, stepped, afresh, recordsOf}
-use Rattle.record.specs.Sound.{soundRecord, sound}
+use Rattle.record.specs.Life.{isOpen, unitsOf, chosenAt, stepped, afresh}
+use Rattle.record.specs.Sound.{soundRecord}
 use Rattle.record.specs.declared.Record.{Record}
-use Rattle.record.specs.declared.Table.{Table}
 
 -- a stripe of the state has few units: at most 7
 abbrev pub fewIn : State → Bool
@@ -40,12 +36,9 @@ steppedOr st r k = cond (canStep st r k) (stepped st r k) r
 unfoldable pub afreshOr : State → Record → Record
 afreshOr st r = cond (canCount r) (afresh st r) r
 
--- whether a record, or a table, is sound, and the units few
+-- whether a record is sound, and the units few
 unfoldable pub soundRecordIn : State → Record → Bool
 soundRecordIn st r = fewIn st && soundRecord st r
-
-unfoldable pub soundIn : State → Table → Bool
-soundIn st t = fewIn st && sound st (recordsOf t)
 
 -- a number that is no stripe's: stripes are 0 to 1,023 at most
 abbrev pub noStripe : ℕ
@@ -54,7 +47,3 @@ noStripe = 1024
 -- the stripe that a record holds, or that number
 unfoldable pub heldStripe : Record → ℕ
 heldStripe r = cond (isOpen r) (r .stripe) noStripe
-
--- the stripes that a table's open records hold, by record, to the eighth
-unfoldable pub heldStripes : Table → List ℕ
-heldStripes t = tabulate 8 (λ i. heldStripe (getD (recordsOf t) i free))

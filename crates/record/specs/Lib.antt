@@ -1,4 +1,5 @@
--- The request record, what becomes of it, and when a table is sound.
+-- The request record, what becomes of it, when a table is sound, and its marks.
 pub mod Life
 pub mod Sound
 pub mod Asked
+pub mod Marks

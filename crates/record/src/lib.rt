@@ -1,10 +1,11 @@
-// The request record by value, and the table of up to eight of them.
+// The request record by value, the table of up to eight of them, and its marks.
 // Assumes nothing.
 pub use life::admitted;
 pub use life::free;
 pub use sound::legal_mask;
 
 mod life;
+mod marking;
 mod sound;
 mod tables;
 
@@ -30,5 +31,11 @@ pub struct Record {
 // A table by value: its records, of which the first len count.
 pub struct Table {
     pub records: [Record; 8],
+    pub len: u64,
+}
+
+// The marks of a table: a number for each of its records, of which the first len count.
+pub struct Marks {
+    pub marks: [u64; 8],
     pub len: u64,
 }

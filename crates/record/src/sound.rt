@@ -4,15 +4,20 @@ ghost use mathlib.Core.Path.{_≡_};
 ghost use Prim.Native.Nat.{_+_, _*_, _≤_};
 ghost use lib.Dec.{leb};
 ghost use Rattle.record.specs.Asked.{soundRecordIn, heldStripe};
-ghost use Rattle.record.specs.Sound.{allZero, legalMask, legalRecord, legalChosen, clash, holds};
+ghost use Rattle.record.specs.Marks.{markOf};
+ghost use Rattle.record.specs.Sound.{allZero, legalMask, legalRecord, legalChosen};
 use crate::Record;
 use crate::life::units;
 use geometry::NONE;
 use geometry::State;
 use graph::Judged;
 
-// A number that is no stripe's.
+// A number that is no stripe's, a free record's mark, and that of one that is not sound.
 pub(crate) const NO_STRIPE: u64 = 1024;
+
+pub(crate) const FREE: u64 = 1025;
+
+pub(crate) const UNSOUND: u64 = 1026;
 
 // A legal mask of n units: not zero, and no bit at n or above.
 pub fn legal_mask(n: u64, mask: u64) -> bool
@@ -125,36 +130,29 @@ impl Record {
         }
     }
 
-    // The two records are open on one stripe.
-    pub(crate) fn clashes(self, other: Record) -> bool
-        ensures { λ r. ⌜ r ≡ clash self other ⌝ }
-    {
-        if self.phase != 1 {
-            return false;
-        }
-        if other.phase != 1 {
-            return false;
-        }
-        self.stripe == other.stripe
-    }
-
-    // The record is open on the stripe.
-    pub(crate) fn holds(self, stripe: u64) -> bool
-        ensures { λ r. ⌜ r ≡ holds stripe self ⌝ }
-    {
-        if self.phase != 1 {
-            return false;
-        }
-        self.stripe == stripe
-    }
-
     // The stripe that the record holds, or a number that is no stripe's.
-    pub(crate) fn held_stripe(self) -> u64
+    fn held_stripe(self) -> u64
         ensures { λ r. ⌜ r ≡ heldStripe self ⌝ }
     {
         if self.phase == 1 {
             return self.stripe;
         }
         NO_STRIPE
+    }
+
+    // The record's mark: its stripe where it is open, else whether it is finished, free, or not sound.
+    pub fn mark(self, state: State) -> u64
+        ensures { λ r. ⌜ r ≡ markOf state self ⌝ }
+    {
+        if self.phase == 0 {
+            if self.all_zero() {
+                return FREE;
+            }
+            return UNSOUND;
+        }
+        if !self.is_sound(state) {
+            return UNSOUND;
+        }
+        self.held_stripe()
     }
 }

@@ -9,5 +9,7 @@ pub mod Records
 pub mod Elements
 pub mod Fields
 pub mod Slices
+pub mod Arrays
 pub mod Uses
 pub mod Copies
+pub mod Marking

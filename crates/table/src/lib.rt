@@ -1,10 +1,13 @@
-// The table of request records as the caller lends it: thin functions that count it, read one record and replace one.
+// The table of request records as the caller lends it: thin functions that count it, read one record or eight, mark them, replace one and free all.
 // Assumes nothing.
 ghost use mathlib.Core.Path.{_≡_};
 ghost use lib.ListN.{length, getD, set, replicate};
 ghost use mathlib.Core.Bool.{cond};
 ghost use Rattle.record.specs.Life.{free};
+ghost use Rattle.record.specs.Marks.{markIn, marksOf};
 ghost use Rattle.table.specs.Copy.{copyOf};
+use geometry::State;
+use record::Marks;
 use record::Record;
 use record::Table;
 
@@ -60,6 +63,35 @@ pub fn copied(table: &[Record]) -> Table
         records: [r0, r1, r2, r3, r4, r5, r6, r7],
         len: n,
     }
+}
+
+// The mark of the record at i; past the end, a number that is no stripe's.
+pub fn mark(table: &[Record], i: u64, state: State) -> u64
+    ensures { λ r. ⌜ r ≡ markIn state (now (table .entry)) i ⌝ }
+{
+    if i < table.len() as u64 {
+        return table[i as usize].mark(state);
+    }
+    1024
+}
+
+// The marks of the table: K is at most 8, and a table of another length is refused by its length alone.
+pub fn marked(table: &[Record], state: State) -> Marks
+    ensures { λ r. ⌜ r ≡ marksOf state (now (table .entry)) ⌝ }
+{
+    let n = count(table);
+    let mut top = n;
+    if 8 < n {
+        top = 8;
+    }
+    let mut marks = [1024; 8];
+    let mut i: u64 = 0;
+    while i < top {
+        let m = mark(table, i, state);
+        marks[i as usize] = m;
+        i += 1;
+    }
+    Marks { marks, len: n }
 }
 
 // Every record is freed, where that is asked.

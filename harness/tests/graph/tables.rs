@@ -130,27 +130,31 @@ fn two_on_one_stripe() {
     }
 }
 
-/// Of tables of every length up to eight: the lowest free record, and which stripes are held.
+/// Of tables of every length up to eight, free, open and finished records in every order: the lowest free record, and which stripes are held.
 #[test]
 fn free_records_and_held_stripes() {
+    let state = State { cards: 8, stripes: 8, block: 16, records: 8, out: NONE, lost: 0 };
+    let open = Record { phase: OPEN, mask: 1, graph: 1, chosen: NONE, ..Record::default() };
+    let finished = Record { phase: FINISHED, done: 1, ..open };
     for phases in 0..3usize.pow(8) {
         let table: Vec<Record> = (0..8)
             .map(|at| {
-                let phase = (phases / 3usize.pow(at) % 3) as u64;
-                if phase == 0 {
-                    Record::default()
-                } else {
-                    Record { phase, stripe: (at as u64 * 5) % 7, ..Record::default() }
+                let stripe = (at as u64 * 5) % 8;
+                match phases / 3usize.pow(at) % 3 {
+                    0 => Record::default(),
+                    1 => Record { stripe, ..open },
+                    _ => Record { stripe, ..finished },
                 }
             })
             .collect();
         for length in [phases % 9, 8] {
             let table = &table[..length];
             let free = table.iter().position(|record| record.phase == 0).unwrap_or(length);
-            assert_eq!(lowest_free(table), free as u64, "{table:?}");
+            assert!(sound(&state, table), "{table:?}");
+            assert_eq!(lowest_free(&state, table), free as u64, "{table:?}");
             for stripe in 0..8 {
                 assert_eq!(
-                    held(table, stripe),
+                    held(&state, table, stripe),
                     record::held(table, stripe),
                     "{stripe} of {table:?}"
                 );

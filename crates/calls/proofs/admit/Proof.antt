@@ -1,4 +1,4 @@
--- `calls::admit` meets its contract: a walk of its MIR, by hand. The table is copied out, the admission over the table by value makes the answer and the taken record, which is put back.
+-- `calls::admit` meets its contract: a walk of its MIR, by hand. The table's marks are read out, the admission by marks makes the answer and the taken record, which is put back.
 -- Assumes nothing.
 use mathlib.Core.Path.{refl}
 use Prim.Native.Nat.{ℕ, _<_, _^_}
@@ -32,25 +32,23 @@ use denote.Triple.Table.{cited}
 use denote.Triple.Walked.{Stays, stay-none, stay-none-slice, gave-slice, walkOf, goes-none, goes-none-slice, goes-gave-slice}
 use denote.Exit.{yes}
 use Rattle.geometry.specs.declared.State.{State}
-use Rattle.record.specs.Life.{recordsOf}
+use Rattle.record.specs.Marks.{marksOf}
 use Rattle.record.specs.declared.Record.{Record}
-use Rattle.array.specs.Outcomes.{AdmissionIs}
-use Rattle.array.specs.Admission.{admission}
+use Rattle.array.specs.Marked.{AdmissionMarked}
 use Rattle.array.specs.declared.answers.Admission.{Admission}
 use Rattle.geometry.proofs.State as S
 use Rattle.geometry.proofs.State.Laws as S′
 use Rattle.record.proofs.Record as T
-use Rattle.record.proofs.Table as B
-use Rattle.record.proofs.Table.Laws as B′
+use Rattle.record.proofs.Marks as G
+use Rattle.record.proofs.Marks.Laws as G′
 use Rattle.array.proofs.answers.Admission as O
 use Rattle.array.proofs.answers.Admission.Laws as O′
 use Rattle.array.proofs.answers.Admitted as N
 use Rattle.array.proofs.answers.Admitted.Laws as N′
-use Rattle.array.proofs.admit as core
-use Rattle.array.proofs.admit.Symbol as core-def
-use Rattle.array.proofs.admit.Symbol.{name as #core}
-use Rattle.array.proofs.admit.Met as core-thm
-use Rattle.table.specs.Copy.{copyOf}
+use Rattle.array.proofs.admit_marked as core
+use Rattle.array.proofs.admit_marked.Symbol as core-def
+use Rattle.array.proofs.admit_marked.Symbol.{name as #core}
+use Rattle.array.proofs.admit_marked.Met as core-thm
 use Rattle.table.proofs.Locals.{aside, end, full, leaves}
 use Rattle.table.proofs.Lines.{local, sets, lands-in}
 use Rattle.table.proofs.Slices.{reborrows}
@@ -58,7 +56,7 @@ use Rattle.table.proofs.Walk.{Walk, nil, had, made, calls-of, framed, proven, e
 use Rattle.table.proofs.Calls.{Told, calls-said}
 use Rattle.table.proofs.Fields.{parts}
 use Rattle.table.proofs.Records.{vals}
-use Rattle.table.proofs.Uses.{copies, puts}
+use Rattle.table.proofs.Uses.{marks, puts}
 use Rattle.calls.proofs.Bridge.{admit-lent}
 use Rattle.calls.proofs.Passing.{twice, lasting}
 use Rattle.calls.proofs.admit.Key.{name as #admit}
@@ -66,7 +64,7 @@ use Rattle.calls.proofs.admit as admit
 use Rattle.calls.proofs.admit.Statement as stated
 use Rattle.calls.proofs.admit.Code as code
 
--- what is known of the fields of what the admission by value hands back
+-- what is known of the fields of what the admission by marks hands back
 answer-is : (r : Admission) → Is O.the-row r (O′.lowered r ∷ []) → Is N.the-row (r .answer) (N′.lowered (r .answer) ∷ [])
 answer-is r is = parts O.struct O.propositions O′.the-laws r _ is .0
 
@@ -101,12 +99,12 @@ module _ {M : Type 1} (𝓤 : URA M) (H : Heap 𝓤) (𝓜 : Model 𝓤 H) (𝓖
   abbrev clauses : Clauses 𝓤 admit.ended
   clauses = admit.clauses 𝓤 H A (𝓜 .mem) (𝓡 .run)
 
-  -- the admission by value: its clauses and its theorem
+  -- the admission by marks: its clauses and its theorem
   abbrev asked : Clauses 𝓤 core.ended
   asked = core.clauses 𝓤 H A (𝓜 .mem) (𝓡 .run)
 
   known : Triple 𝓤 (calls-of 𝓤 H 𝓜 𝓖 𝓡 code.env #core) (Told 𝓤 H A core.ended asked)
-  known = cited 𝓤 H (Told 𝓤 H A core.ended asked) 𝓜 𝓡 code.env #core core-def.routine code.calls-array·admit (core-thm.met 𝓤 H 𝓜 𝓖 𝓡)
+  known = cited 𝓤 H (Told 𝓤 H A core.ended asked) 𝓜 𝓡 code.env #core core-def.routine code.calls-array·admit-marked (core-thm.met 𝓤 H 𝓜 𝓖 𝓡)
 
   module _ (κ κw κm κp : Lft) (q qw qm qp : Share) (st : State) (b o : ℕ) (γ : GName) (ys : List Record) (w m : RefT (List ℕ)) (write : Bool) (s mask : ℕ) (p : RefT (List ℕ)) where
     abbrev st-vals : List Val
@@ -135,8 +133,8 @@ module _ {M : Type 1} (𝓤 : URA M) (H : Heap 𝓤) (𝓜 : Model 𝓤 H) (𝓖
         pass1 ! (init ! 16 refl (tt, (tt, (record { fits = p-fits .0 }, tt)))) $ pass0 ! $
         reborrows ! 4 22 24 refl refl refl tt refl refl refl (tt, (tt, (record { fits = fits .0 }, tt))) $ move ! (36 ∷ 41 ∷ []) $
         -- [the table's token; what the table owns; _0; …; _17; …; the others' tokens; what state, work, image, write, stripe, mask and payload own]
-        copies 𝓤 H 𝓜 𝓖 𝓡 code.env (named 0) κ q b o γ ys code.calls-table·copied ! (λ _ _ _. and-then ! (local ! 27 refl) (no-more !)) (λ is-copy.
-        lands-in ! 20 refl (LL.lawful B.the-type B′.the-laws 𝓤 H A W .typed (copyOf ys) _ is-copy .0) $
+        marks 𝓤 H 𝓜 𝓖 𝓡 code.env (named 0) κ q b o γ ys code.calls-table·marked st is ! (λ _ _ _. and-then ! (local ! 27 refl) (and-then ! (local ! 5 refl) (no-more !))) (λ is-marks.
+        lands-in ! 20 refl (LL.lawful G.the-type G′.the-laws 𝓤 H A W .typed (marksOf st ys) _ is-marks .0) $
         reborrows ! 8 28 30 refl refl refl tt refl refl refl (tt, (tt, (record { fits = w-fits .0 }, tt))) $
         move ! (43 ∷ []) $ twice ! u8 (named 2) κm m $ move ! (48 ∷ []) $ twice ! u8 (named 3) κp p $ move ! (42 ∷ 43 ∷ 44 ∷ 46 ∷ 2 ∷ 0 ∷ []) $
         calls-said 𝓤 H A core.ended asked (
@@ -144,13 +142,13 @@ module _ {M : Type 1} (𝓤 : URA M) (H : Heap 𝓤) (𝓜 : Model 𝓤 H) (𝓖
             (κw, (κm, (κp, tt))),
             (qw, (qm, (qp, tt))),
             tt,
-            (st, (copyOf ys, (w, (m, (write, (s, (mask, (p, tt)))))))),
-            (st-vals, (B′.lowered (copyOf ys) ∷ [], (slice-vals w, (slice-vals m, (vbool write ∷ [], (vint w64 s ∷ [], (vint w64 mask ∷ [], (slice-vals p, tt)))))))),
+            (st, (marksOf st ys, (w, (m, (write, (s, (mask, (p, tt)))))))),
+            (st-vals, (G′.lowered (marksOf st ys) ∷ [], (slice-vals w, (slice-vals m, (vbool write ∷ [], (vint w64 s ∷ [], (vint w64 mask ∷ [], (slice-vals p, tt)))))))),
           ),
           tt,
         ) W ! (framed 𝓤 H 𝓜 𝓖 𝓡 code.env) known (id⊢ 𝓤 _)
-        O′.lowered (O′.lowers .val-is) (λ r ws. AdmissionIs (admission st (recordsOf (copyOf ys)) (w .now) (m .now) write s mask (p .now)) (recordsOf (copyOf ys)) r (ws .1 .1 .0)) (λ r ws. id⊢ 𝓤 _)
-        (made (LL.makes S.the-type S′.the-plain 𝓤 H A st _ is) (made (LL.makes B.the-type B′.the-plain 𝓤 H A (copyOf ys) _ is-copy) (had (had (made (bool-makes 𝓤 H A W write _ refl)
+        O′.lowered (O′.lowers .val-is) (λ r ws. AdmissionMarked st (marksOf st ys) (w .now) (m .now) write s mask (p .now) r (ws .1 .1 .0)) (λ r ws. id⊢ 𝓤 _)
+        (made (LL.makes S.the-type S′.the-plain 𝓤 H A st _ is) (made (LL.makes G.the-type G′.the-plain 𝓤 H A (marksOf st ys) _ is-marks) (had (had (made (bool-makes 𝓤 H A W write _ refl)
         (made (uint-makes 𝓤 H A W w64 s _ (refl, s-fits)) (made (uint-makes 𝓤 H A W w64 mask _ (refl, mask-fits)) (had nil))))))))
         (and-then ! (local ! 7 refl) (and-then ! (local ! 23 refl) (and-then ! (local ! 33 refl) (and-then ! (local ! 13 refl) (and-then ! (local ! 15 refl) (and-then ! (local ! 17 refl) (and-then ! (local ! 19 refl) (and-then ! (local ! 21 refl) (no-more !))))))))) (λ r ws e is-out.
         lands-in ! 28 refl (LL.lawful O.the-type O′.the-laws 𝓤 H A W .typed r _ is-out .0) $

@@ -1,4 +1,4 @@
--- `calls::open` meets its contract: a walk of its MIR, by hand. The table is copied out, the opening over the table by value makes the answer and the new state, and where it is accepted every record is freed.
+-- `calls::open` meets its contract: a walk of its MIR, by hand. The table is counted, the opening by its length makes the answer and the new state, and where it is accepted every record is freed.
 -- Assumes nothing.
 use mathlib.Core.Path.{_≡_, refl}
 use Prim.Native.Nat.{ℕ, _<_, _^_}
@@ -33,33 +33,30 @@ use denote.Triple.Table.{cited}
 use denote.Triple.Walked.{Stays, stay-none, stay-none-slice, gave-slice, walkOf, goes-none, goes-none-slice, goes-gave-slice}
 use denote.Exit.{yes}
 use Rattle.geometry.specs.declared.Geometry.{Geometry}
-use Rattle.record.specs.Life.{free, recordsOf}
+use Rattle.record.specs.Life.{free}
 use Rattle.record.specs.declared.Record.{Record}
 use Rattle.array.specs.Answers.{openedReply}
 use Rattle.array.specs.Opening.{opening}
-use Rattle.array.specs.Outcomes.{OpeningIs}
+use Rattle.array.specs.Marked.{OpeningSized}
 use Rattle.array.specs.declared.answers.Opening.{Opening}
 use Rattle.geometry.proofs.Geometry as G
 use Rattle.geometry.proofs.Geometry.Laws as G′
 use Rattle.record.proofs.Record as T
-use Rattle.record.proofs.Table as B
-use Rattle.record.proofs.Table.Laws as B′
 use Rattle.array.proofs.answers.Opening as O
 use Rattle.array.proofs.answers.Opening.Laws as O′
 use Rattle.array.proofs.answers.Opened as N
 use Rattle.array.proofs.answers.Opened.Laws as N′
-use Rattle.array.proofs.open as core
-use Rattle.array.proofs.open.Symbol as core-def
-use Rattle.array.proofs.open.Symbol.{name as #core}
-use Rattle.array.proofs.open.Met as core-thm
-use Rattle.table.specs.Copy.{copyOf}
+use Rattle.array.proofs.open_sized as core
+use Rattle.array.proofs.open_sized.Symbol as core-def
+use Rattle.array.proofs.open_sized.Symbol.{name as #core}
+use Rattle.array.proofs.open_sized.Met as core-thm
 use Rattle.table.proofs.Locals.{aside, end, full, leaves}
 use Rattle.table.proofs.Lines.{local, sets, lands-in}
 use Rattle.table.proofs.Slices.{reborrows}
 use Rattle.table.proofs.Walk.{Walk, nil, had, made, calls-of, framed, proven, ends}
 use Rattle.table.proofs.Calls.{Told, calls-said}
 use Rattle.table.proofs.Fields.{parts}
-use Rattle.table.proofs.Uses.{copies, frees-all}
+use Rattle.table.proofs.Uses.{counts, frees-all}
 use Rattle.calls.specs.Lent.{OpeningLent}
 use Rattle.calls.proofs.Bridge.{open-lent}
 use Rattle.calls.proofs.Passing.{twice}
@@ -84,9 +81,9 @@ left-long : (asked : Bool) (ys : List Record) → length (left asked ys) ≡ len
 left-long true ys = length-replicate (length ys) free
 left-long false ys = refl
 
-says : (ys : List Record) (g : Geometry) (out : ℕ) (w m : List ℕ) (r : Opening) (asked : Bool) → OpeningIs (opening g out (recordsOf (copyOf ys)) w m) r → asked ≡ eqb (openedReply (r .answer) .number) 0
+says : (ys : List Record) (g : Geometry) (out : ℕ) (w m : List ℕ) (r : Opening) (asked : Bool) → OpeningSized g out (length ys) w m r → asked ≡ eqb (openedReply (r .answer) .number) 0
     → OpeningLent (opening g out ys w m) (r .answer) (r .state) (left asked ys)
-says ys g out w m r asked is e = rw e (open-lent ys g out w m r is)
+says ys g out w m r asked said e = rw e (open-lent ys g out w m r (said ys refl))
 
 abbrev stayed : Stays (lent.ended .signature .params) (lent.ended .kept)
 stayed = (stay-none (λ _. G.the-row) yes, (stay-none (λ _. u64) yes, (gave-slice (0 ∷ []) tt (plain (λ _. T.the-row)), (stay-none-slice (1 ∷ []) tt (plain (λ _. u8)) yes, (stay-none-slice (2 ∷ []) tt (plain (λ _. u8)) yes, tt)))))
@@ -106,7 +103,7 @@ module _ {M : Type 1} (𝓤 : URA M) (H : Heap 𝓤) (𝓜 : Model 𝓤 H) (𝓖
   asked = core.clauses 𝓤 H A (𝓜 .mem) (𝓡 .run)
 
   known : Triple 𝓤 (calls-of 𝓤 H 𝓜 𝓖 𝓡 code.env #core) (Told 𝓤 H A core.ended asked)
-  known = cited 𝓤 H (Told 𝓤 H A core.ended asked) 𝓜 𝓡 code.env #core core-def.routine code.calls-array·open (core-thm.met 𝓤 H 𝓜 𝓖 𝓡)
+  known = cited 𝓤 H (Told 𝓤 H A core.ended asked) 𝓜 𝓡 code.env #core core-def.routine code.calls-array·open-sized (core-thm.met 𝓤 H 𝓜 𝓖 𝓡)
 
   -- and those of the test whether it is accepted
   abbrev tests : Clauses 𝓤 tested.ended
@@ -132,12 +129,12 @@ module _ {M : Type 1} (𝓤 : URA M) (H : Heap 𝓤) (𝓜 : Model 𝓤 H) (𝓖
         pass1 ! (init ! 8 refl (tt, (tt, (record { fits = w-fits .0 }, tt)))) $ pass1 ! (init ! 10 refl (tt, (tt, (record { fits = m-fits .0 }, tt)))) $ pass0 ! $
         reborrows ! 6 16 18 refl refl refl tt refl refl refl (tt, (tt, (record { fits = fits .0 }, tt))) $ move ! (28 ∷ 33 ∷ []) $
         -- [the table's token; what the table owns; _0; …; _13; …; the others' tokens; what geometry, out, work and image own]
-        copies 𝓤 H 𝓜 𝓖 𝓡 code.env (named 0) κ q b o γ ys code.calls-table·copied ! (λ _ _ _. and-then ! (local ! 21 refl) (no-more !)) (λ is-copy.
-        lands-in ! 14 refl (LL.lawful B.the-type B′.the-laws 𝓤 H A W .typed (copyOf ys) _ is-copy .0) $
+        counts 𝓤 H 𝓜 𝓖 𝓡 code.env (named 0) κ q b o γ ys code.calls-table·count ! (λ _ _ _. and-then ! (local ! 21 refl) (no-more !)) $
+        lands-in ! 14 refl (tt, record { fits = fits .0 }) $
         move ! (34 ∷ []) $ twice ! u8 (named 1) κw w $ move ! (36 ∷ []) $ twice ! u8 (named 2) κm m $ move ! (34 ∷ 35 ∷ 2 ∷ 0 ∷ []) $
-        calls-said 𝓤 H A core.ended asked (((κw, (κm, tt)), (qw, (qm, tt)), tt, (g, (out, (copyOf ys, (w, (m, tt))))), (g-vals, (vint w64 out ∷ [], (B′.lowered (copyOf ys) ∷ [], (slice-vals w, (slice-vals m, tt)))))), tt) W ! (framed 𝓤 H 𝓜 𝓖 𝓡 code.env) known (id⊢ 𝓤 _)
-        O′.lowered (O′.lowers .val-is) (λ r _. OpeningIs (opening g out (recordsOf (copyOf ys)) (w .now) (m .now)) r) (λ r ws. id⊢ 𝓤 _)
-        (made (LL.makes G.the-type G′.the-plain 𝓤 H A g _ is) (made (uint-makes 𝓤 H A W w64 out _ (refl, out-fits)) (made (LL.makes B.the-type B′.the-plain 𝓤 H A (copyOf ys) _ is-copy) (had (had nil)))))
+        calls-said 𝓤 H A core.ended asked (((κw, (κm, tt)), (qw, (qm, tt)), tt, (g, (out, (length ys, (w, (m, tt))))), (g-vals, (vint w64 out ∷ [], (vint w64 (length ys) ∷ [], (slice-vals w, (slice-vals m, tt)))))), tt) W ! (framed 𝓤 H 𝓜 𝓖 𝓡 code.env) known (id⊢ 𝓤 _)
+        O′.lowered (O′.lowers .val-is) (λ r _. OpeningSized g out (length ys) (w .now) (m .now) r) (λ r ws. id⊢ 𝓤 _)
+        (made (LL.makes G.the-type G′.the-plain 𝓤 H A g _ is) (made (uint-makes 𝓤 H A W w64 out _ (refl, out-fits)) (made (uint-makes 𝓤 H A W w64 (length ys) _ (refl, fits .0)) (had (had nil)))))
         (and-then ! (local ! 7 refl) (and-then ! (local ! 9 refl) (and-then ! (local ! 17 refl) (and-then ! (local ! 13 refl) (and-then ! (local ! 15 refl) (no-more !)))))) (λ r ws e is-out.
         lands-in ! 20 refl (LL.lawful O.the-type O′.the-laws 𝓤 H A W .typed r _ is-out .0) $
         -- [the others' tokens; image; work; the table's token; what the table owns; _0; …; _13; …; what geometry and out own]
@@ -150,7 +147,7 @@ module _ {M : Type 1} (𝓤 : URA M) (H : Heap 𝓤) (𝓜 : Model 𝓤 H) (𝓖
         lands-in ! 26 refl (tt, tt) $ sets ! (of-opd ! (local ! 20 refl)) 6 refl (LL.lawful O.the-type O′.the-laws 𝓤 H A W .typed r _ is-out .0) $
         returns ! (look ! 6 refl) $ aside ! 6 $ leaves ! (full (full (full (full (full (full (full (full (full (full (full (full (full (full end)))))))))))))) $ keep ! (2 ∷ 4 ∷ 5 ∷ 0 ∷ 1 ∷ 3 ∷ 7 ∷ 6 ∷ []) $
         ends 𝓤 H A W lent.ended stayed clauses bound (O′.lowered r) r (tt, (tt, (left v ys, (tt, (tt, tt))))) (tt, (tt, (left-long v ys, (tt, (tt, tt)))))
-        (factI 𝓤 _ (emp 𝓤) (says ys g out (w .now) (m .now) r v e e′)) (LL.makes O.the-type O′.the-plain 𝓤 H A r _ is-out) (had (had (had (had (had nil))))))))
+        (factI 𝓤 _ (emp 𝓤) (says ys g out (w .now) (m .now) r v e e′)) (LL.makes O.the-type O′.the-plain 𝓤 H A r _ is-out) (had (had (had (had (had nil)))))))
 
 pub open-spec : {M : Type 1} → stated.statement M
 unfolding code.routine

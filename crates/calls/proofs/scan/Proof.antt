@@ -1,6 +1,6 @@
--- `calls::scan` meets its contract: a walk of its MIR, by hand. The table is copied out, and the scan over the table by value makes the answer.
+-- `calls::scan` meets its contract: a walk of its MIR, by hand. The scan by the table's marks makes the answer.
 -- Assumes nothing.
-use mathlib.Core.Path.{_≡_, refl, _∙_}
+use mathlib.Core.Path.{refl}
 use Prim.Native.Nat.{ℕ}
 use mathlib.Core.List.{[], _∷_, List}
 use lib.ListN.{length}
@@ -29,32 +29,29 @@ use denote.Triple.Table.{cited}
 use denote.Triple.Walked.{Stays, stay-none, stay-none-slice, walkOf, goes-none, goes-none-slice}
 use denote.Exit.{yes}
 use Rattle.geometry.specs.declared.State.{State}
-use Rattle.parity.specs.Scan.{Named, reply}
-use Rattle.record.specs.Life.{recordsOf}
+use Rattle.record.specs.Marks.{marksOf}
 use Rattle.record.specs.declared.Record.{Record}
-use Rattle.array.specs.Scan.{scanReply}
 use Rattle.geometry.proofs.State as S
 use Rattle.geometry.proofs.State.Laws as S′
 use Rattle.parity.proofs.Scan as N
 use Rattle.parity.proofs.Scan.Laws as N′
 use Rattle.record.proofs.Record as T
-use Rattle.record.proofs.Table as B
-use Rattle.record.proofs.Table.Laws as B′
-use Rattle.array.proofs.scan as core
-use Rattle.array.proofs.scan.Symbol as core-def
-use Rattle.array.proofs.scan.Symbol.{name as #core}
-use Rattle.array.proofs.scan.Met as core-thm
-use Rattle.table.specs.Copy.{copyOf}
+use Rattle.record.proofs.Marks as G
+use Rattle.record.proofs.Marks.Laws as G′
+use Rattle.array.specs.Marked.{ScanMarked}
+use Rattle.array.proofs.scan_marked as core
+use Rattle.array.proofs.scan_marked.Symbol as core-def
+use Rattle.array.proofs.scan_marked.Symbol.{name as #core}
+use Rattle.array.proofs.scan_marked.Met as core-thm
 use Rattle.table.proofs.Locals.{aside, end, full, leaves}
 use Rattle.table.proofs.Lines.{local, lands-in}
 use Rattle.table.proofs.Walk.{Walk, nil, had, made, calls-of, framed, proven, ends}
 use Rattle.table.proofs.Calls.{Told, calls-said}
 use Rattle.table.proofs.Readers.{reads}
-use Rattle.table.proofs.copied as copied
-use Rattle.table.proofs.copied.Symbol as copied-def
-use Rattle.table.proofs.copied.Symbol.{name as #copied}
-use Rattle.table.proofs.copied.Met as copied-thm
-use Rattle.calls.proofs.Bridge.{scan-lent}
+use Rattle.table.proofs.marked as marked
+use Rattle.table.proofs.marked.Symbol as marked-def
+use Rattle.table.proofs.marked.Symbol.{name as #marked}
+use Rattle.table.proofs.marked.Met as marked-thm
 use Rattle.calls.proofs.Passing.{twice}
 use Rattle.calls.proofs.scan.Key.{name as #scan}
 use Rattle.calls.proofs.scan as scan
@@ -74,18 +71,18 @@ module _ {M : Type 1} (𝓤 : URA M) (H : Heap 𝓤) (𝓜 : Model 𝓤 H) (𝓖
   abbrev clauses : Clauses 𝓤 scan.ended
   clauses = scan.clauses 𝓤 H A (𝓜 .mem) (𝓡 .run)
 
-  -- the table copied out, and the scan by value: their clauses and theorems
-  abbrev copying : Clauses 𝓤 copied.ended
-  copying = copied.clauses 𝓤 H A (𝓜 .mem) (𝓡 .run)
+  -- the table's marks, and the scan by marks: their clauses and theorems
+  abbrev marking : Clauses 𝓤 marked.ended
+  marking = marked.clauses 𝓤 H A (𝓜 .mem) (𝓡 .run)
 
-  known-copy : Triple 𝓤 (calls-of 𝓤 H 𝓜 𝓖 𝓡 code.env #copied) (Told 𝓤 H A copied.ended copying)
-  known-copy = cited 𝓤 H (Told 𝓤 H A copied.ended copying) 𝓜 𝓡 code.env #copied copied-def.routine code.calls-table·copied (copied-thm.met 𝓤 H 𝓜 𝓖 𝓡)
+  known-marks : Triple 𝓤 (calls-of 𝓤 H 𝓜 𝓖 𝓡 code.env #marked) (Told 𝓤 H A marked.ended marking)
+  known-marks = cited 𝓤 H (Told 𝓤 H A marked.ended marking) 𝓜 𝓡 code.env #marked marked-def.routine code.calls-table·marked (marked-thm.met 𝓤 H 𝓜 𝓖 𝓡)
 
   abbrev asked : Clauses 𝓤 core.ended
   asked = core.clauses 𝓤 H A (𝓜 .mem) (𝓡 .run)
 
   known : Triple 𝓤 (calls-of 𝓤 H 𝓜 𝓖 𝓡 code.env #core) (Told 𝓤 H A core.ended asked)
-  known = cited 𝓤 H (Told 𝓤 H A core.ended asked) 𝓜 𝓡 code.env #core core-def.routine code.calls-array·scan (core-thm.met 𝓤 H 𝓜 𝓖 𝓡)
+  known = cited 𝓤 H (Told 𝓤 H A core.ended asked) 𝓜 𝓡 code.env #core core-def.routine code.calls-array·scan-marked (core-thm.met 𝓤 H 𝓜 𝓖 𝓡)
 
   module _ (κ κm : Lft) (q qm : Share) (st : State) (t : RefT (List Record)) (m : RefT (List ℕ)) where
     abbrev st-vals : List Val
@@ -100,19 +97,19 @@ module _ {M : Type 1} (𝓤 : URA M) (H : Heap 𝓤) (𝓜 : Model 𝓤 H) (𝓖
         params1 ! $ pass1 ! (init ! 2 refl (LL.lawful S.the-type S′.the-laws 𝓤 H A W .typed st _ is .0)) $ pass1 ! (init ! 4 refl (tt, (tt, (record { fits = fits .0 }, tt)))) $ pass1 ! (init ! 6 refl (tt, (tt, (record { fits = m-fits .0 }, tt)))) $ pass0 ! $
         move ! (10 ∷ 13 ∷ []) $
         -- [the table's token; what the table owns; _0; …; _4; …; the image's token; what state and image own]
-        reads T.the-row [] tt (plain (λ _. B.the-row)) 𝓤 H A copying κ q t tt tt tt W B′.lowered (copyOf (t .now)) ! (framed 𝓤 H 𝓜 𝓖 𝓡 code.env) known-copy
-        (id⊢ 𝓤 _) (B′.lowers .val-is) (λ r ws. id⊢ 𝓤 _) (λ Δ. nil) (λ _. and-then ! (local ! 6 refl) (no-more !)) (λ is-copy.
-        lands-in ! 10 refl (LL.lawful B.the-type B′.the-laws 𝓤 H A W .typed (copyOf (t .now)) _ is-copy .0) $
+        reads T.the-row (plain (λ _. S.the-row) ∷ []) (yes, tt) (plain (λ _. G.the-row)) 𝓤 H A marking κ q t (st, tt) (st-vals, tt) tt W G′.lowered (marksOf st (t .now)) ! (framed 𝓤 H 𝓜 𝓖 𝓡 code.env) known-marks
+        (id⊢ 𝓤 _) (G′.lowers .val-is) (λ r ws. id⊢ 𝓤 _) (λ Δ. made (LL.makes S.the-type S′.the-plain 𝓤 H A st _ is) nil) (λ _. and-then ! (local ! 6 refl) (and-then ! (local ! 4 refl) (no-more !))) (λ is-marks.
+        lands-in ! 10 refl (LL.lawful G.the-type G′.the-laws 𝓤 H A W .typed (marksOf st (t .now)) _ is-marks .0) $
         move ! (14 ∷ []) $ twice ! u8 (named 1) κm m $ move ! (14 ∷ 0 ∷ []) $
-        calls-said 𝓤 H A core.ended asked (((κm, tt), (qm, tt), tt, (st, (copyOf (t .now), (m, tt))), (st-vals, (B′.lowered (copyOf (t .now)) ∷ [], (slice-vals m, tt)))), tt) W ! (framed 𝓤 H 𝓜 𝓖 𝓡 code.env) known (id⊢ 𝓤 _)
-        N′.lowered (N′.lowers .val-is) (λ r _. (reply r ≡ scanReply st (recordsOf (copyOf (t .now))) (m .now)) × Named r) (λ r ws. id⊢ 𝓤 _)
-        (made (LL.makes S.the-type S′.the-plain 𝓤 H A st _ is) (made (LL.makes B.the-type B′.the-plain 𝓤 H A (copyOf (t .now)) _ is-copy) (had nil)))
+        calls-said 𝓤 H A core.ended asked (((κm, tt), (qm, tt), tt, (st, (marksOf st (t .now), (m, tt))), (st-vals, (G′.lowered (marksOf st (t .now)) ∷ [], (slice-vals m, tt)))), tt) W ! (framed 𝓤 H 𝓜 𝓖 𝓡 code.env) known (id⊢ 𝓤 _)
+        N′.lowered (N′.lowers .val-is) (λ r _. ScanMarked st (marksOf st (t .now)) (m .now) r) (λ r ws. id⊢ 𝓤 _)
+        (made (LL.makes S.the-type S′.the-plain 𝓤 H A st _ is) (made (LL.makes G.the-type G′.the-plain 𝓤 H A (marksOf st (t .now)) _ is-marks) (had nil)))
         (and-then ! (local ! 6 refl) (and-then ! (local ! 12 refl) (and-then ! (local ! 10 refl) (no-more !)))) (λ r _ e is-out.
         lands-in ! 4 refl (EL.lawful N.the-type N′.the-laws 𝓤 H A W tt .typed r _ is-out .0) $
         -- [the image's token; image; the table's token; what the table owns; _0; …; _4; …; what state owns]
         returns ! (look ! 4 refl) $ aside ! 4 $ leaves ! (full (full (full (full (full end))))) $ keep ! (3 ∷ 1 ∷ 0 ∷ 4 ∷ 2 ∷ []) $
         ends 𝓤 H A W scan.ended stayed clauses bound (N′.lowered r) r (tt, (tt, (tt, tt))) (tt, (tt, (tt, tt)))
-        (factI 𝓤 _ (emp 𝓤) (e .0 ∙ scan-lent (t .now) st (m .now), e .1)) (EL.makes N.the-type N′.the-plain 𝓤 H A r _ is-out) (had (had (had nil)))))
+        (factI 𝓤 _ (emp 𝓤) (e (t .now) refl)) (EL.makes N.the-type N′.the-plain 𝓤 H A r _ is-out) (had (had (had nil)))))
 
 pub scan-spec : {M : Type 1} → stated.statement M
 unfolding code.routine

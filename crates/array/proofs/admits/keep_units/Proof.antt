@@ -11,10 +11,6 @@ use Rattle.array.proofs.Turns.{Turned, turned-none, turned-all}
 use Rattle.array.proofs.Units.{keeping-bounds, keep-room, keep-more, keep-pass}
 use Rattle.array.proofs.admits.keep_units.Statement.{statement}
 use Rattle.array.proofs.admits.keep_units.Tie as tie
-use Rattle.array.proofs.admits.keep_units.Reads as reads
-use Rattle.array.proofs.admits.keep_units.Lts as lts
-use Rattle.block.proofs.carry.Reads as carry-reads
-use Rattle.geometry.proofs.State.write_at.Reads as write-at-reads
 
 abbrev Inv-loop : tie.InvT-loop
 Inv-loop state «record» mask payload work₀ units size from₀ u₀ work from u =

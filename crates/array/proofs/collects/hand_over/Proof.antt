@@ -11,10 +11,6 @@ use Rattle.array.proofs.Turns.{Turned, turned-none, turned-all}
 use Rattle.array.proofs.Units.{keeping-bounds, keep-room, hand-more, hand-pass}
 use Rattle.array.proofs.collects.hand_over.Statement.{statement}
 use Rattle.array.proofs.collects.hand_over.Tie as tie
-use Rattle.array.proofs.collects.hand_over.Reads as reads
-use Rattle.array.proofs.collects.hand_over.Lts as lts
-use Rattle.block.proofs.carry.Reads as carry-reads
-use Rattle.geometry.proofs.State.read_at.Reads as read-at-reads
 
 abbrev Inv-loop : tie.InvT-loop
 Inv-loop state «record» mask work result₀ units size place₀ u₀ result place u =

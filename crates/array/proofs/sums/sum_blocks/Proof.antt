@@ -11,11 +11,6 @@ use Rattle.block.proofs.Blocks.{length-summed}
 use Rattle.array.specs.Sums.{newIf, blockSum}
 use Rattle.array.proofs.sums.sum_blocks.Statement.{statement}
 use Rattle.array.proofs.sums.sum_blocks.Tie as tie
-use Rattle.array.proofs.sums.sum_blocks.Reads as reads
-use Rattle.array.proofs.sums.sum_blocks.Lts as lts
-use Rattle.array.proofs.sums.add_news.Reads as add-news-reads
-use Rattle.array.proofs.sums.add_reads.Reads as add-reads-reads
-use Rattle.block.proofs.carry.Reads as carry-reads
 
 add-reads-requires : tie.Need-add-reads-requires
 add-reads-requires c κs = search needs

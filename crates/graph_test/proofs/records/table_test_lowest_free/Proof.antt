@@ -4,18 +4,16 @@ use mathlib.Core.Path.{_∙_, ap}
 use borrow.Author.Needs.{needs}
 use Rattle.graph_test.proofs.records.table_test_lowest_free.Statement.{statement}
 use Rattle.graph_test.proofs.records.table_test_lowest_free.Tie as tie
-use Rattle.record.specs.Life.{recordsOf}
-use Rattle.record.specs.Sound.{lowestFree}
-use Rattle.record.specs.declared.Table.{Table}
+use Rattle.record.specs.Marks.{freeMarks}
 
-table-requires : tie.Need-table-requires
-table-requires c κs = search needs
+marks-requires : tie.Need-marks-requires
+marks-requires c κs = search needs
 
 lowest-free-requires : tie.Need-lowest-free-requires
 lowest-free-requires c κs = search needs
 
 returns : tie.Need-returns
-returns c = c .lowest-free .ensures ∙ ap (λ (t : Table). lowestFree (recordsOf t)) (c .before .table .ensures)
+returns c = c .lowest-free .ensures ∙ ap freeMarks (c .before .marks .ensures)
 
 pub table-test-lowest-free-spec : {M : Type 1} → statement M
-table-test-lowest-free-spec = tie.close (tie.spec table-requires lowest-free-requires returns)
+table-test-lowest-free-spec = tie.close (tie.spec marks-requires lowest-free-requires returns)

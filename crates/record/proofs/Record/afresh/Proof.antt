@@ -9,7 +9,7 @@ use lib.Dec.{eqb}
 use Rattle.graph.specs.Choice.{choose}
 use Rattle.record.specs.Asked.{canCount, afreshOr}
 use Rattle.record.specs.Life.{afresh}
-use Rattle.record.proofs.Marks.{count-fits}
+use Rattle.record.proofs.Counting.{count-fits}
 use Rattle.record.proofs.Record.afresh.Statement.{statement}
 use Rattle.record.proofs.Record.afresh.Tie as tie
 use Rattle.record.proofs.Same.{same}

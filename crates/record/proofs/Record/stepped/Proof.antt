@@ -9,7 +9,7 @@ use Rattle.graph.specs.Asked.{fewUnits}
 use Rattle.graph.specs.Order.{complete, after}
 use Rattle.record.specs.Asked.{canStep, steppedOr}
 use Rattle.record.specs.Life.{unitsOf, chosenAt, stepped}
-use Rattle.record.proofs.Marks.{CanStep, can-step-elim, count-fits, after-done}
+use Rattle.record.proofs.Counting.{CanStep, can-step-elim, count-fits, after-done}
 use Rattle.record.proofs.Record.stepped.Statement.{statement}
 use Rattle.record.proofs.Record.stepped.Tie as tie
 use Rattle.record.proofs.Same.{same}
