@@ -11,8 +11,8 @@ extern "C" {
     fn graph_test_judge(n: u64, g: u64, mask: u64, x: u64, done: u64) -> u64;
     fn graph_test_kind(n: u64, k: u64) -> u64;
     fn graph_test_place(n: u64, k: u64) -> u64;
-    fn graph_test_takes_read(n: u64, g: u64, mask: u64, x: u64, p: u64) -> bool;
-    fn graph_test_takes_new(n: u64, g: u64, mask: u64, p: u64) -> bool;
+    fn graph_test_taken_reads(n: u64, g: u64, mask: u64, x: u64) -> u64;
+    fn graph_test_taken_news(n: u64, g: u64, mask: u64) -> u64;
     fn graph_test_sums_to_read(g: u64) -> bool;
     fn table_test_sound(
         state: *const u64,
@@ -90,14 +90,14 @@ impl Asked {
         }
     }
 
-    /// The exclusive or takes the read block of this position.
-    pub fn takes_read(self, position: u64) -> bool {
-        unsafe { graph_test_takes_read(self.units, self.graph, self.mask, self.missing, position) }
+    /// The positions whose read blocks the exclusive or takes.
+    pub fn taken_reads(self) -> u64 {
+        unsafe { graph_test_taken_reads(self.units, self.graph, self.mask, self.missing) }
     }
 
-    /// It takes the block to write of this position.
-    pub fn takes_new(self, position: u64) -> bool {
-        unsafe { graph_test_takes_new(self.units, self.graph, self.mask, position) }
+    /// The positions whose blocks to write it takes.
+    pub fn taken_news(self) -> u64 {
+        unsafe { graph_test_taken_news(self.units, self.graph, self.mask) }
     }
 }
 

@@ -1,6 +1,6 @@
 -- What the code of a done step carries and adds up is what the step leaves.
 -- Assumes nothing.
-use Prim.Native.Nat.{ℕ, _+_, _≤_, _<_}
+use Prim.Native.Nat.{ℕ, _+_, _*_, _≤_, _<_}
 use mathlib.Core.Bool.{Bool, true, false, cond}
 use mathlib.Core.List.{List, []}
 use mathlib.Core.Path.{_≡_, refl, ap, ap₂, _∙_}
@@ -8,30 +8,41 @@ use native.Mathlib.Nat.{zero-add}
 use native.Mathlib.Omega.{arith}
 use lib.Bits.{bitXor, xor-zero-l}
 use lib.ListN.{length, getD, length-replicate, getD-replicate}
-use borrow.Author.Tests.{eq-eqb}
+use borrow.Author.Tests.{le-leb}
 use Rattle.terms.specs.Lists.{part, put}
-use Rattle.terms.specs.Sets.{xorTo}
+use Rattle.terms.specs.Sets.{setOf, xorTo}
+use Rattle.terms.proofs.Bits.{bit-setOf}
 use Rattle.terms.proofs.Lists.{is-tabulate, length-part, getD-part}
 use Rattle.terms.proofs.Sets.{xorTo-cong}
 use Rattle.block.specs.Blocks.{carried, summed, zeros}
 use Rattle.block.proofs.Blocks.{length-summed, getD-summed}
 use Rattle.block.proofs.Carried.{carried-whole}
-use Rattle.geometry.specs.Asked.{cellIn, writeIn, readIn, readPart, writePart}
+use Rattle.geometry.specs.Asked.{cellIn, writeIn, readIn}
 use Rattle.geometry.specs.Placement.{cardAt, cardIn}
-use Rattle.geometry.specs.Store.{writeAt, readAt, workWrong}
+use Rattle.geometry.specs.Store.{writeAt, readAt}
 use Rattle.geometry.specs.declared.State.{State}
-use Rattle.geometry.proofs.Asked.{BoundsOf, Inside, cellIn-is, cellIn-inside, writeIn-is, readIn-is, writeIn-inside, readIn-inside, readPart-is, writePart-is}
+use Rattle.geometry.proofs.Asked.{BoundsOf, Inside, cellIn-is, cellIn-inside, writeIn-is, readIn-is, writeIn-inside, readIn-inside}
 use Rattle.geometry.proofs.Apart.{read-inside, write-inside}
 use Rattle.geometry.proofs.Bounds.{legal-bounds}
 use Rattle.geometry.proofs.Places.{cardAt-below}
 use Rattle.geometry.proofs.Turns.{cardIn-is}
+use Rattle.graph.specs.Asked.{fewUnits}
 use Rattle.graph.specs.Steps.{rd, xr, wr}
 use Rattle.graph.specs.Sums.{takesRead, takesNew, sumsToRead}
 use Rattle.record.specs.Life.{chosenAt, unitsOf}
 use Rattle.record.specs.declared.Record.{Record}
 use Rattle.array.specs.Premises.{Performing}
 use Rattle.array.specs.Stepping.{cellOf, workAfter, imageAfter, sumByte, sumAt}
-use Rattle.array.specs.Sums.{readIf, newIf, blockSum}
+use Rattle.array.specs.Sums.{takenIf, blockSum}
+
+-- a record's blocks stand one behind the other
+pub read-row : (N B i p : ℕ) → readAt N B i 0 + p * B ≡ readAt N B i p
+unfolding readAt
+read-row N B i p = omega arith
+
+pub write-row : (N B i p : ℕ) → writeAt N B i 0 + p * B ≡ writeAt N B i p
+unfolding writeAt
+write-row N B i p = omega arith
 
 module _ (st : State) (i : ℕ) (r : Record) (work image : List ℕ) (k : Performing st i r work image) where
   pub performing-bounds : BoundsOf st
@@ -76,31 +87,35 @@ module _ (st : State) (i : ℕ) (r : Record) (work image : List ℕ) (k : Perfor
       ∙ carried-whole image at work from (st .block) (cell .1) (omega (arith, writeIn-inside st i p (in-work p h), k .work-right))
       ∙ ap₂ (λ (a f : ℕ). put a (part f (st .block) work) image) (cell .0) (from-is ∙ writeIn-is st i p (in-work p h))
 
-  right-length : workWrong st work ≡ false
-  unfolding workWrong
-  right-length = simp (eq-eqb _ _ (k .work-right))
+  few : fewUnits (unitsOf st) ≡ true
+  unfolding fewUnits
+  few = le-leb (unitsOf st) 7 (omega (arith, performing-bounds))
 
-  -- a byte of a block that the sum takes, or 0 where it takes none
-  read-byte : (p b : ℕ) → p < st .cards → b < st .block
-      → getD (readIf st i (r .graph) (r .mask) (chosenAt st r) work p) b 0
-      ≡ cond (takesRead (unitsOf st) (r .graph) (r .mask) (chosenAt st r) p) (getD work (readAt (st .cards) (st .block) i p + b) 0) 0
-  read-byte p b h hb = go (takesRead (unitsOf st) (r .graph) (r .mask) (chosenAt st r) p)
-    where
-      go : (t : Bool) → getD (cond t (readPart st i p work) []) b 0 ≡ cond t (getD work (readAt (st .cards) (st .block) i p + b) 0) 0
-      go true = rw (readPart-is st i p (in-work p h) work right-length) (getD-part (readAt (st .cards) (st .block) i p) (st .block) work b 0 hb)
-      go false = refl
+  -- the sets that the sum takes, as the code makes them
+  abbrev reads : ℕ
+  reads = setOf (unitsOf st + 1) (takesRead (unitsOf st) (r .graph) (r .mask) (chosenAt st r))
 
-  new-byte : (p b : ℕ) → p < st .cards → b < st .block
-      → getD (newIf st i (r .graph) (r .mask) work p) b 0
-      ≡ cond (takesNew (unitsOf st) (r .graph) (r .mask) p) (getD work (writeAt (st .cards) (st .block) i p + b) 0) 0
-  new-byte p b h hb = go (takesNew (unitsOf st) (r .graph) (r .mask) p)
+  abbrev news : ℕ
+  news = setOf (unitsOf st + 1) (takesNew (unitsOf st) (r .graph) (r .mask))
+
+  pub reads-are : (set x : ℕ) → set ≡ cond (fewUnits (unitsOf st)) (setOf (unitsOf st + 1) (takesRead (unitsOf st) (r .graph) (r .mask) x)) 0 → x ≡ chosenAt st r → set ≡ reads
+  reads-are set x e is = rw (few, is) at e
+
+  pub news-are : (set : ℕ) → set ≡ cond (fewUnits (unitsOf st)) news 0 → set ≡ news
+  news-are set e = rw few at e
+
+  -- a byte of a block that it takes, or 0 where it takes none
+  taken-byte : (f : ℕ → Bool) (first at p b : ℕ) → p < st .cards → b < st .block → first + p * st .block ≡ at
+      → getD (takenIf (setOf (unitsOf st + 1) f) first (st .block) work p) b 0 ≡ cond (f p) (getD work (at + b) 0) 0
+  taken-byte f first at p b h hb e =
+      rw (bit-setOf (unitsOf st + 1) f p (omega (arith, performing-bounds)), e) (go (f p))
     where
-      go : (t : Bool) → getD (cond t (writePart st i p work) []) b 0 ≡ cond t (getD work (writeAt (st .cards) (st .block) i p + b) 0) 0
-      go true = rw (writePart-is st i p (in-work p h) work right-length) (getD-part (writeAt (st .cards) (st .block) i p) (st .block) work b 0 hb)
+      go : (t : Bool) → getD (cond t (part at (st .block) work) []) b 0 ≡ cond t (getD work (at + b) 0) 0
+      go true = getD-part at (st .block) work b 0 hb
       go false = refl
 
   abbrev sum : List ℕ
-  sum = blockSum st i (r .graph) (r .mask) (chosenAt st r) work
+  sum = blockSum st i reads news work
 
   sum-length : length sum ≡ 512
   unfolding blockSum
@@ -109,16 +124,19 @@ module _ (st : State) (i : ℕ) (r : Record) (work image : List ℕ) (k : Perfor
   sum-byte : (b : ℕ) → b < st .block → getD sum b 0 ≡ sumByte st i r work b
   unfolding blockSum sumByte
   sum-byte b hb =
+      let N = st .cards in
+      let B = st .block in
       let small : b < 512 = omega (arith, performing-bounds) in
-      let inner = summed (st .cards) (readIf st i (r .graph) (r .mask) (chosenAt st r) work) (zeros 512) in
+      let old = takenIf reads (readAt N B i 0) B work in
+      let new = takenIf news (writeAt N B i 0) B work in
       let long : length (zeros 512) ≡ 512 = length-replicate {A = ℕ} 512 0 in
-      getD-summed (st .cards) (newIf st i (r .graph) (r .mask) work) inner b (omega (arith, length-summed (st .cards) (readIf st i (r .graph) (r .mask) (chosenAt st r) work) (zeros 512)))
+      getD-summed N new (summed N old (zeros 512)) b (omega (arith, length-summed N old (zeros 512)))
       ∙ ap₂ bitXor
-      (getD-summed (st .cards) (readIf st i (r .graph) (r .mask) (chosenAt st r) work) (zeros 512) b (omega arith)
-      ∙ ap (λ (z : ℕ). bitXor z (xorTo (st .cards) (λ p. getD (readIf st i (r .graph) (r .mask) (chosenAt st r) work p) b 0))) (getD-replicate 512 b 0 0 small)
+      (getD-summed N old (zeros 512) b (omega arith)
+      ∙ ap (λ (z : ℕ). bitXor z (xorTo N (λ p. getD (old p) b 0))) (getD-replicate 512 b 0 0 small)
       ∙ xor-zero-l _
-      ∙ xorTo-cong (st .cards) _ _ (λ p h. read-byte p b h hb))
-      (xorTo-cong (st .cards) _ _ (λ p h. new-byte p b h hb))
+      ∙ xorTo-cong N _ _ (λ p h. taken-byte _ (readAt N B i 0) (readAt N B i p) p b h hb (read-row N B i p)))
+      (xorTo-cong N _ _ (λ p h. taken-byte _ (writeAt N B i 0) (writeAt N B i p) p b h hb (write-row N B i p)))
 
   -- the block that it goes to has room
   pub sum-room : sumAt st i r + st .block ≤ length work

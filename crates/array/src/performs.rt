@@ -18,6 +18,8 @@ use geometry::missing_at;
 use graph::Action;
 use graph::step_of;
 use graph::sums_to_read;
+use graph::taken_news;
+use graph::taken_reads;
 use record::Record;
 
 // Copies the card's block of a position to the record's read block.
@@ -60,9 +62,12 @@ fn sum(state: State, i: u64, r: Record, work: &mut [u8], image: &[u8])
     requires { ⌜ Performing state i r (now work) (now image) ⌝ }
     ensures { λ _. ⌜ now (work .exit) ≡ workAfter state i r xr (now (work .entry)) (now (image .entry)) ⌝ }
 {
+    let n = state.cards - 1;
     let x = missing_at(state.cards, r.stripe, r.chosen);
     let at = sum_at(state, i, r, x);
-    sum_blocks(state, i, r.graph, r.mask, x, at, work);
+    let reads = taken_reads(n, r.graph, r.mask, x);
+    let news = taken_news(n, r.graph, r.mask);
+    sum_blocks(state, i, reads, news, at, work);
 }
 
 // Does step k of a record: the work store and the image after it.

@@ -1,65 +1,50 @@
 // The exclusive or of a record's blocks: each sum starts from a block of 512 zero bytes, of which B are used.
 // Assumes nothing.
+ghost use mathlib.Core.Bool.{true};
 ghost use mathlib.Core.Path.{_≡_};
-ghost use Rattle.array.specs.Sums.{readIf, newIf, blockSum};
+ghost use Prim.Native.Nat.{_+_, _*_, _≤_, _<_};
+ghost use lib.ListN.{length};
+ghost use Rattle.array.specs.Sums.{takenIf, blockSum};
 ghost use Rattle.block.specs.Blocks.{summed, carried};
+ghost use Rattle.geometry.specs.Store.{legalState, workSize};
 use block::add;
 use block::carry;
 use geometry::State;
-use graph::takes_new;
-use graph::takes_read;
 
-// Adds the read blocks that a record's graph takes.
-fn add_reads(
-    sum: &mut [u8; 512],
-    state: State,
-    record: u64,
-    graph: u64,
-    mask: u64,
-    x: u64,
-    work: &[u8],
-)
-    ensures { λ _. ⌜ now (sum .exit) ≡ summed (state .cards) (readIf state «record» graph mask x (now (work .entry))) (now (sum .entry)) ⌝ }
+// Adds the blocks of a set of positions, which stand one behind the other from a place on.
+fn add_taken(sum: &mut [u8; 512], taken: u64, first: usize, cards: u64, size: usize, work: &[u8])
+    requires { ⌜ (cards ≤ 8) × (first + cards * size ≤ length (now work)) ⌝ }
+    ensures { λ _. ⌜ now (sum .exit) ≡ summed cards (takenIf taken first size (now (work .entry))) (now (sum .entry)) ⌝ }
 {
-    let cards = state.cards;
+    let mut at = first;
     let mut p: u64 = 0;
     while p < cards {
-        if takes_read(cards - 1, graph, mask, x, p) {
-            add(sum, state.read_block(work, record, p));
+        let end = at + size;
+        if (taken >> p) % 2 == 1 {
+            add(sum, &work[at..end]);
         }
+        at = end;
         p += 1;
     }
 }
 
-// Adds the blocks to write that it takes.
-fn add_news(sum: &mut [u8; 512], state: State, record: u64, graph: u64, mask: u64, work: &[u8])
-    ensures { λ _. ⌜ now (sum .exit) ≡ summed (state .cards) (newIf state «record» graph mask (now (work .entry))) (now (sum .entry)) ⌝ }
-{
-    let cards = state.cards;
-    let mut p: u64 = 0;
-    while p < cards {
-        if takes_new(cards - 1, graph, mask, p) {
-            add(sum, state.write_block(work, record, p));
-        }
-        p += 1;
-    }
-}
-
-// Puts the sum of a record's blocks into the work store at a place.
+// Puts the sum of a record's blocks, read and to write, into the work store at a place.
 pub(crate) fn sum_blocks(
     state: State,
     record: u64,
-    graph: u64,
-    mask: u64,
-    x: u64,
+    reads: u64,
+    news: u64,
     at: usize,
     work: &mut [u8],
 )
-    ensures { λ _. ⌜ now (work .exit) ≡ carried (now (work .entry)) at (blockSum state «record» graph mask x (now (work .entry))) 0 (state .block) ⌝ }
+    requires { ⌜ (legalState state ≡ true) × («record» < state .records) × (length (now work) ≡ workSize (state .cards) (state .block) (state .records)) ⌝ }
+    ensures { λ _. ⌜ now (work .exit) ≡ carried (now (work .entry)) at (blockSum state «record» reads news (now (work .entry))) 0 (state .block) ⌝ }
 {
     let size = state.block as usize;
+    let read = state.read_at(record, 0);
+    let new = state.write_at(record, 0);
     let mut sum = [0u8; 512];
-    add_reads(&mut sum, state, record, graph, mask, x, work);
-    add_news(&mut sum, state, record, graph, mask, work);
+    add_taken(&mut sum, reads, read, state.cards, size, work);
+    add_taken(&mut sum, news, new, state.cards, size, work);
     carry(work, at, &sum, 0, size);
 }

@@ -9,8 +9,8 @@ use lib.ListN.{length}
 use borrow.Author.Tests.{ltb-true, lt-ltb}
 use Rattle.terms.specs.Lists.{part}
 use Rattle.terms.proofs.Rows.{and-left, and-right, and-both}
-use Rattle.geometry.specs.Asked.{imageSizeIn, workSizeIn, cellIn, writeIn, readIn, cellPart, writePart, readPart}
-use Rattle.geometry.specs.Store.{imageSize, workSize, cellAt, writeAt, readAt, imageWrong, workWrong, legalState, inImage, inWork}
+use Rattle.geometry.specs.Asked.{imageSizeIn, workSizeIn, cellIn, writeIn, readIn, cellPart}
+use Rattle.geometry.specs.Store.{imageSize, workSize, cellAt, writeAt, readAt, imageWrong, legalState, inImage, inWork}
 use Rattle.geometry.specs.declared.State.{State}
 use Rattle.geometry.proofs.Apart.{cell-inside, write-inside, read-inside}
 use Rattle.geometry.proofs.Bounds.{Bounds, legal-bounds, bounds-legal}
@@ -96,14 +96,6 @@ module _ (st : State) where
     pub readIn-inside : readIn st r j + st .block ≤ workSize (st .cards) (st .block) (st .records)
     readIn-inside = rw readIn-is (read-inside (st .cards) (st .block) (st .records) r j (p .first) (p .second))
 
-    pub writePart-is : (work : List ℕ) → workWrong st work ≡ false → writePart st r j work ≡ part (writeAt (st .cards) (st .block) r j) (st .block) work
-    unfolding writePart
-    writePart-is work e = simp (is-in-work r j p, e)
-
-    pub readPart-is : (work : List ℕ) → workWrong st work ≡ false → readPart st r j work ≡ part (readAt (st .cards) (st .block) r j) (st .block) work
-    unfolding readPart
-    readPart-is work e = simp (is-in-work r j p, e)
-
 -- a part, by the tests that the code makes: that the block is there, and the length
 tested : (there : Bool) (whole size at place block : ℕ) (l : List ℕ)
     → (there ≡ true → (whole ≡ size) × (at ≡ place))
@@ -117,15 +109,3 @@ module _ (st : State) where
   cellPart-asked c s image =
       tested (inImage st c s) _ _ _ _ _ image
       (λ e. let p = in-image st c s e in (imageSizeIn-is st (p .bounds), cellIn-is st c s p))
-
-  pub writePart-asked : (r j : ℕ) (work : List ℕ) → cond (inWork st r j && eqb (length work) (workSizeIn st)) (part (writeIn st r j) (st .block) work) [] ≡ writePart st r j work
-  unfolding writePart workWrong
-  writePart-asked r j work =
-      tested (inWork st r j) _ _ _ _ _ work
-      (λ e. let p = in-work st r j e in (workSizeIn-is st (p .bounds), writeIn-is st r j p))
-
-  pub readPart-asked : (r j : ℕ) (work : List ℕ) → cond (inWork st r j && eqb (length work) (workSizeIn st)) (part (readIn st r j) (st .block) work) [] ≡ readPart st r j work
-  unfolding readPart workWrong
-  readPart-asked r j work =
-      tested (inWork st r j) _ _ _ _ _ work
-      (λ e. let p = in-work st r j e in (workSizeIn-is st (p .bounds), readIn-is st r j p))

@@ -4,7 +4,7 @@ use Prim.Native.Nat.{ℕ}
 use mathlib.Core.Bool.{cond, not, _&&_}
 use mathlib.Core.List.{List, []}
 use Rattle.terms.specs.Lists.{part}
-use Rattle.geometry.specs.Store.{imageSize, workSize, cellAt, writeAt, readAt, imageWrong, workWrong, legalState, inImage, inWork}
+use Rattle.geometry.specs.Store.{imageSize, workSize, cellAt, writeAt, readAt, imageWrong, legalState, inImage, inWork}
 use Rattle.geometry.specs.declared.State.{State}
 
 -- the sizes of the image and of the work store
@@ -25,15 +25,7 @@ writeIn st r j = cond (inWork st r j) (writeAt (st .cards) (st .block) r j) 0
 unfoldable pub readIn : State → ℕ → ℕ → ℕ
 readIn st r j = cond (inWork st r j) (readAt (st .cards) (st .block) r j) 0
 
--- these blocks, as parts of an image or a work store of the right length
+-- a block of the image, as a part of an image of the right length
 unfoldable pub cellPart : State → ℕ → ℕ → List ℕ → List ℕ
 cellPart st c s image =
     cond (inImage st c s && not (imageWrong st image)) (part (cellAt (st .stripes) (st .block) c s) (st .block) image) []
-
-unfoldable pub writePart : State → ℕ → ℕ → List ℕ → List ℕ
-writePart st r j work =
-    cond (inWork st r j && not (workWrong st work)) (part (writeAt (st .cards) (st .block) r j) (st .block) work) []
-
-unfoldable pub readPart : State → ℕ → ℕ → List ℕ → List ℕ
-readPart st r j work =
-    cond (inWork st r j && not (workWrong st work)) (part (readAt (st .cards) (st .block) r j) (st .block) work) []

@@ -1,5 +1,5 @@
-// A block handed on as a part of the image, or of the work store, that starts in its middle; the empty part where there is no such block,
-// or where what is lent is of another length.
+// A block handed on as a part of the image that starts in its middle; the empty part where there is no such block, or where the image is
+// of another length.
 // Assumes nothing.
 ghost use mathlib.Core.Bool.{true, cond, _&&_};
 ghost use mathlib.Core.List.{[]};
@@ -8,7 +8,7 @@ ghost use Prim.Native.Nat.{_+_, _≤_};
 ghost use lib.Dec.{eqb};
 ghost use lib.ListN.{length};
 ghost use Rattle.terms.specs.Lists.{part};
-ghost use Rattle.geometry.specs.Asked.{cellPart, writePart, readPart};
+ghost use Rattle.geometry.specs.Asked.{cellPart};
 use crate::State;
 
 // The part of s that starts at a place, of so many bytes, where it is there and s is as long as it should be.
@@ -35,25 +35,5 @@ impl State {
         let whole = self.image_size();
         let at = self.cell_at(card, stripe);
         part(image, there, whole, at, self.block as usize)
-    }
-
-    // A record's block to write of a position.
-    pub fn write_block(self, work: &[u8], record: u64, position: u64) -> &[u8]
-        ensures { λ r. ⌜ now r ≡ writePart self «record» position (now (work .entry)) ⌝ }
-    {
-        let there = self.in_work(record, position);
-        let whole = self.work_size();
-        let at = self.write_at(record, position);
-        part(work, there, whole, at, self.block as usize)
-    }
-
-    // A record's block read of a position.
-    pub fn read_block(self, work: &[u8], record: u64, position: u64) -> &[u8]
-        ensures { λ r. ⌜ now r ≡ readPart self «record» position (now (work .entry)) ⌝ }
-    {
-        let there = self.in_work(record, position);
-        let whole = self.work_size();
-        let at = self.read_at(record, position);
-        part(work, there, whole, at, self.block as usize)
     }
 }

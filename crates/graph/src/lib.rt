@@ -13,8 +13,8 @@ pub use order::ready;
 pub use steps::Action;
 pub use steps::step_of;
 pub use sums::sums_to_read;
-pub use sums::takes_new;
-pub use sums::takes_read;
+pub use sums::taken_news;
+pub use sums::taken_reads;
 
 mod choice;
 mod order;

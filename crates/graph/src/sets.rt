@@ -25,7 +25,7 @@ pub(crate) fn below(n: u64) -> u64
 }
 
 // The masked units.
-fn masked_set(n: u64, mask: u64) -> u64
+pub(crate) fn masked_set(n: u64, mask: u64) -> u64
     requires { ⌜ n ≤ 7 ⌝ }
     ensures { λ r. ⌜ r ≡ setOf (n + 1) (masked n mask) ⌝ }
 {

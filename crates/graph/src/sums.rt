@@ -1,65 +1,37 @@
-// What the exclusive or takes, and where it goes.
+// What the exclusive or takes, as sets of positions, and where it goes. Beyond 7 units, the array's limit, the sets are empty.
+ghost use mathlib.Core.Bool.{cond};
 ghost use mathlib.Core.Path.{_≡_};
-ghost use Rattle.graph.specs.Steps.{masked, unmasked};
+ghost use Prim.Native.Nat.{_+_};
+ghost use Rattle.terms.specs.Sets.{setOf};
+ghost use Rattle.graph.specs.Asked.{fewUnits};
 ghost use Rattle.graph.specs.Sums.{takesRead, takesNew, sumsToRead};
-use crate::choice::has;
+use crate::sets::masked_set;
+use crate::sets::read_set;
 
-// Unit p is in the mask.
-fn masked(n: u64, mask: u64, p: u64) -> bool
-    ensures { λ r. ⌜ r ≡ masked n mask p ⌝ }
+// The positions whose read blocks the exclusive or takes: all that the graph reads.
+pub fn taken_reads(n: u64, g: u64, mask: u64, x: u64) -> u64
+    ensures { λ r. ⌜ r ≡ cond (fewUnits n) (setOf (n + 1) (takesRead n g mask x)) 0 ⌝ }
 {
-    if p >= n {
-        return false;
+    if n > 7 {
+        return 0;
     }
-    has(p, mask)
+    read_set(n, g, mask, x)
 }
 
-// Unit p is outside it.
-fn unmasked(n: u64, mask: u64, p: u64) -> bool
-    ensures { λ r. ⌜ r ≡ unmasked n mask p ⌝ }
+// The positions whose blocks to write it takes: a write's new units.
+pub fn taken_news(n: u64, g: u64, mask: u64) -> u64
+    ensures { λ r. ⌜ r ≡ cond (fewUnits n) (setOf (n + 1) (takesNew n g mask)) 0 ⌝ }
 {
-    if p >= n {
-        return false;
+    if n > 7 {
+        return 0;
     }
-    !has(p, mask)
-}
-
-// The exclusive or takes the read block of position p.
-pub fn takes_read(n: u64, g: u64, mask: u64, x: u64, p: u64) -> bool
-    ensures { λ r. ⌜ r ≡ takesRead n g mask x p ⌝ }
-{
-    if p == x {
-        return false;
-    }
-    if g == 1 {
-        return masked(n, mask, p);
-    }
-    if g == 2 {
-        return p <= n;
-    }
-    if g == 3 {
-        if p == n {
-            return true;
-        }
-        return masked(n, mask, p);
-    }
-    if g == 4 {
-        return unmasked(n, mask, p);
-    }
-    false
-}
-
-// It takes the block to write of position p.
-pub fn takes_new(n: u64, g: u64, mask: u64, p: u64) -> bool
-    ensures { λ r. ⌜ r ≡ takesNew n g mask p ⌝ }
-{
     if g < 3 {
-        return false;
+        return 0;
     }
     if g > 5 {
-        return false;
+        return 0;
     }
-    masked(n, mask, p)
+    masked_set(n, mask)
 }
 
 // It goes to the read block of X.

@@ -1,6 +1,8 @@
 // The graphs.
 ghost use mathlib.Core.Bool.{cond, _&&_};
 ghost use mathlib.Core.Path.{_≡_};
+ghost use Prim.Native.Nat.{_+_};
+ghost use Rattle.terms.specs.Sets.{setOf};
 ghost use Rattle.graph.specs.Asked.{fewUnits, stepSet, beforeSet, judged};
 ghost use Rattle.graph.specs.Choice.{choose};
 ghost use Rattle.graph.specs.Order.{ready, complete};
@@ -87,17 +89,17 @@ pub extern "C" fn graph_test_place(n: u64, k: u64) -> u64
 }
 
 #[no_mangle]
-pub extern "C" fn graph_test_takes_read(n: u64, g: u64, mask: u64, x: u64, p: u64) -> bool
-    ensures { λ r. ⌜ r ≡ (takesRead n g mask x p) ⌝ }
+pub extern "C" fn graph_test_taken_reads(n: u64, g: u64, mask: u64, x: u64) -> u64
+    ensures { λ r. ⌜ r ≡ cond (fewUnits n) (setOf (n + 1) (takesRead n g mask x)) 0 ⌝ }
 {
-    graph::takes_read(n, g, mask, x, p)
+    graph::taken_reads(n, g, mask, x)
 }
 
 #[no_mangle]
-pub extern "C" fn graph_test_takes_new(n: u64, g: u64, mask: u64, p: u64) -> bool
-    ensures { λ r. ⌜ r ≡ (takesNew n g mask p) ⌝ }
+pub extern "C" fn graph_test_taken_news(n: u64, g: u64, mask: u64) -> u64
+    ensures { λ r. ⌜ r ≡ cond (fewUnits n) (setOf (n + 1) (takesNew n g mask)) 0 ⌝ }
 {
-    graph::takes_new(n, g, mask, p)
+    graph::taken_news(n, g, mask)
 }
 
 #[no_mangle]
