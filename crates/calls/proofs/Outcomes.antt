@@ -2,19 +2,16 @@
 -- gives its answer by a reply. docs/OUTCOMES.md lists them.
 -- Assumes nothing.
 use Prim.Native.Nat.{ℕ}
-use mathlib.Core.Bool.{cond}
 use mathlib.Core.List.{List}
 use mathlib.Core.Path.{_≡_, refl, sym, ap, ap₂, _∙_}
-use lib.Dec.{eqb}
 use Rattle.terms.specs.Reply.{Reply}
 use Rattle.geometry.specs.Answers.{placedReply, heldReply}
 use Rattle.geometry.specs.Report.{Reporting, ReportingIs}
 use Rattle.geometry.specs.declared.Held.{Held}
-use Rattle.geometry.specs.declared.Held.the-variants as held
 use Rattle.geometry.specs.declared.Placed.{Placed}
-use Rattle.geometry.specs.declared.Placed.the-variants as placed
 use Rattle.geometry.specs.declared.State.{State}
 use Rattle.geometry.specs.declared.report.Reported.{Reported}
+use Rattle.geometry.proofs.Single.{placed-one, held-one}
 use Rattle.graph.specs.Asked.{actionStep}
 use Rattle.graph.specs.Steps.{Step, rd, xr, wr, nil}
 use Rattle.graph.specs.declared.steps.Action.{Action}
@@ -92,32 +89,12 @@ module _ {d : Collection} {table : List Record} {i : ℕ} {o r : by-collect.Coll
 
 -- ---- placement, and what a step does
 
--- the answer that has a reply
-abbrev placedOf : Reply → Placed
-placedOf r = cond (eqb (r .number) 0) (placed.At (r .first) (r .second)) (cond (eqb (r .number) 1) placed.Beyond placed.OutOfRange)
-
-abbrev heldOf : Reply → Held
-heldOf r = cond (eqb (r .number) 0) (cond (eqb (r .first) 0) (held.Block (r .second)) held.Parity) (cond (eqb (r .number) 1) held.Beyond held.OutOfRange)
-
-placed-named : (a : Placed) → placedOf (placedReply a) ≡ a
-unfolding placedReply
-placed-named (placed.At c s) = refl
-placed-named placed.Beyond = refl
-placed-named placed.OutOfRange = refl
-
-held-named : (a : Held) → heldOf (heldReply a) ≡ a
-unfolding heldReply
-held-named (held.Block l) = refl
-held-named held.Parity = refl
-held-named held.Beyond = refl
-held-named held.OutOfRange = refl
-
 module _ {r : Reply} where
   pub place-one : (a b : Placed) → placedReply a ≡ r → placedReply b ≡ r → a ≡ b
-  place-one a b p q = sym (placed-named a) ∙ ap placedOf (p ∙ sym q) ∙ placed-named b
+  place-one a b p q = placed-one a b (p ∙ sym q)
 
   pub block-at-one : (a b : Held) → heldReply a ≡ r → heldReply b ≡ r → a ≡ b
-  block-at-one a b p q = sym (held-named a) ∙ ap heldOf (p ∙ sym q) ∙ held-named b
+  block-at-one a b p q = held-one a b (p ∙ sym q)
 
 -- what a step does, of the graphs
 abbrev actionOf : Step → Action

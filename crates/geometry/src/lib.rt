@@ -1,5 +1,6 @@
 // The array's shape: its numbers by value, their limits, placement both ways, and where blocks stand.
 // Assumes nothing.
+pub use limits::NO_STRIPE;
 pub use limits::NONE;
 pub use limits::legal;
 pub use placement::card_at;

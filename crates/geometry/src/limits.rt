@@ -9,6 +9,9 @@ use crate::State;
 // The number that says that no card is out.
 pub const NONE: u64 = 255;
 
+// A number that is no stripe's.
+pub const NO_STRIPE: u64 = 1024;
+
 // Whether x is from lo to hi.
 fn within(lo: u64, hi: u64, x: u64) -> bool
     ensures { λ r. ⌜ r ≡ within lo hi x ⌝ }

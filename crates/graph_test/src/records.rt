@@ -4,6 +4,7 @@ ghost use Prim.Native.Nat.{_+_, _*_, _≤_, min};
 ghost use lib.ListN.{length, getD};
 ghost use Rattle.record.specs.Marks.{soundMarks, heldMarks, freeMarks};
 ghost use Rattle.graph_test.specs.Numbers.{stateFrom, recordFrom, marksFrom};
+use geometry::NO_STRIPE;
 use geometry::State;
 use record::Marks;
 use record::Record;
@@ -66,7 +67,7 @@ fn marks(numbers: &[u64], all: &[u64]) -> Marks
     let state = state(numbers);
     let len = all.len() / 8;
     let top = capped(len);
-    let mut marks = [1024; 8];
+    let mut marks = [NO_STRIPE; 8];
     let mut i = 0;
     while i < top {
         let r = record(all, i);

@@ -7,16 +7,17 @@ use mathlib.Core.List.{List, _++_}
 use mathlib.Core.Logic.{_⊎_, inl, inr}
 use mathlib.Core.Path.{_≡_, refl, sym, ap, ap₂, _∙_}
 use native.Mathlib.Omega.{arith}
-use borrow.Author.Tests.{leb-true, le-ltb, not-true}
-use lib.Dec.{leb, ltb}
+use borrow.Author.Tests.{leb-true, le-ltb}
+use lib.Dec.{ltb}
 use lib.ListN.{length, drop}
 use Rattle.terms.specs.Lists.{part}
 use Rattle.terms.specs.Reply.{accepted}
 use Rattle.terms.proofs.Lists.{length-part}
-use Rattle.terms.proofs.Rows.{and-left, and-right, truth}
+use Rattle.terms.proofs.Rows.{and-right, truth}
 use Rattle.geometry.proofs.Apart.{read-inside}
 use Rattle.geometry.specs.Store.{readAt}
 use Rattle.geometry.specs.declared.State.{State}
+use Rattle.record.proofs.Soundness.{sound-record, sound-ready}
 use Rattle.record.specs.Life.{isFree, isOpen, isFinished, isWrite, unitsOf}
 use Rattle.record.specs.Sound.{rightCount, lacksNone}
 use Rattle.record.specs.declared.Record.{Record}
@@ -26,13 +27,12 @@ use Rattle.array.proofs.Rank.{rank-all}
 use Rattle.array.specs.Collection.{collection, collecting, handOver}
 use Rattle.array.specs.Lent.{rank, unitBytes}
 use Rattle.array.specs.Refusals.{collectRefusal, resultShort, stepReady}
-use Rattle.stripe.proofs.Heart.{numbers}
 use Rattle.history.specs.Account.{Account}
 use Rattle.history.specs.Promise.{recordAt, blocksRead, Promise}
 use Rattle.history.specs.World.{World, Event, admit, step, report, collect, scan, decay, play}
 use Rattle.history.proofs.Facts.{fits}
 use Rattle.history.proofs.Gather.{gathered-length, hand-over}
-use Rattle.history.proofs.Invariant.{Matches, Sure, requestOf}
+use Rattle.history.proofs.Invariant.{Matches, Sure}
 use Rattle.history.proofs.Records.{mask-units}
 use Rattle.history.proofs.Replies.{admit-number, step-number, collect-number, report-number, scan-number}
 use Rattle.history.proofs.Stripes.{promised-unit, promised-parity, promised-inferred, promised-scan}
@@ -146,12 +146,9 @@ module _ (w : World) (a : Account) (sure : Sure w a) where
   -- ---- an open record has a step
 
   goes-on : (i : ℕ) → i < st .records → isOpen (recordAt w i) ≡ true → (k : ℕ) × (play w (step i k) .reply .number ≡ 0)
-  unfolding rightCount lacksNone stepReady
+  unfolding stepReady
   goes-on i h o =
-      let r = recordAt w i in
-      let count = fits (sure .right) i h (open-not-free r o) .right-count in
-      let wanting = not-true (lacksNone st r) (and-left (not (lacksNone st r)) (leb (r .count) (2 * unitsOf st + 2)) (rw o at count)) in
-      let next = numbers (unitsOf st) .goes-on (requestOf st r) wanting in
+      let next = sound-ready st (recordAt w i) (sound-record st (w .table) (sure .right .is-sound) i) o in
       (next .0, step-number w i (next .0) ∙ step-granted st (w .table) (w .work) (w .image) (sure .right) i (next .0) h o (next .1))
 
   pub promise : Promise play w a

@@ -6,11 +6,9 @@ ghost use Rattle.block.specs.Blocks.{summed};
 ghost use Rattle.parity.specs.Fitting.{Fitting};
 ghost use Rattle.parity.specs.Parity.{cell, looked, passes};
 ghost use Rattle.parity.specs.Scan.{Named, reply, lookReply, idleScanReply};
+use geometry::NO_STRIPE;
 use geometry::NONE;
 use geometry::State;
-
-// A number that no stripe has.
-pub const NO_STRIPE: u64 = 1024;
 
 // What a scan answers: parity is right; refused by 13, with the lowest stripe and the lowest byte in it where parity disagrees; or refused.
 pub enum Scan {

@@ -13,34 +13,31 @@ use lib.ListN.{length, getD}
 use Rattle.terms.proofs.Lists.{length-tabulate, getD-tabulate, every-elim, every-intro}
 use Rattle.terms.proofs.Rows.{truth, and-left, and-right, and-both}
 use Rattle.terms.proofs.Sets.{allBelow-elim, allBelow-intro, allBelow-cong, lowest-cong}
-use Rattle.terms.specs.Lists.{every}
+use Rattle.terms.specs.Lists.{tabulate, every}
 use Rattle.terms.specs.Sets.{allBelow, lowest}
 use Rattle.geometry.specs.declared.State.{State}
 use Rattle.graph.proofs.Rules.{both-ways}
 use Rattle.record.proofs.Clashes.{eqb-sym, apart-elim, apart-intro}
-use Rattle.record.proofs.Eight.{length-records, at-below}
 use Rattle.record.proofs.Filling.{filling, filling-is}
 use Rattle.record.proofs.Soundness.{sound-elim, sound-record}
 use Rattle.record.specs.Asked.{fewIn, noStripe, heldStripe, soundRecordIn}
-use Rattle.record.specs.Life.{free, isFree, isOpen, recordsOf}
+use Rattle.record.specs.Life.{free, isFree, isOpen}
 use Rattle.record.specs.Marks.{freeMark, unsoundMark, markOf, markIn, marksOf, markAt, among, fits, soundMarks, heldMarks, freeMarks}
 use Rattle.record.specs.Sound.{allZero, soundRecord, clash, apart, sound, holds, held, lowestFree}
 use Rattle.record.specs.declared.Record.{Record}
-use Rattle.record.specs.declared.Table.{Table}
 
 -- ---- filled in
 
-pub filled-marks : (st : State) (t : Table)
-    → filling 8 (λ k. markOf st (getD (t .records) k free)) noStripe (min (t .len) 8) ≡ marksOf st (recordsOf t) .marks
+-- what a loop over n records fills in are the marks of the table that they make
+pub marks-filled : (st : State) (n : ℕ) (f : ℕ → Record) (l : List ℕ) → l ≡ filling 8 (λ k. markOf st (f k)) noStripe (min n 8)
+    → record { marks = l; len = n } ≡ marksOf st (tabulate n f)
 unfolding marksOf markIn
-filled-marks st t =
-    filling-is 8 (min (t .len) 8) (λ k. markOf st (getD (t .records) k free)) noStripe (markIn st (recordsOf t))
-    (λ k l h. rw (length-records t, lt-ltb k (t .len) (omega arith), at-below t k (omega arith)))
-    (λ k l h. rw (length-records t, le-ltb k (t .len) (omega arith)))
-
-pub marks-made : (st : State) (t : Table) (l : List ℕ) → l ≡ marksOf st (recordsOf t) .marks → record { marks = l; len = t .len } ≡ marksOf st (recordsOf t)
-unfolding marksOf
-marks-made st t l e = rw (e, length-records t)
+marks-filled st n f l e =
+    let long = length-tabulate n f in
+    let same = filling-is 8 (min n 8) (λ k. markOf st (f k)) noStripe (markIn st (tabulate n f))
+    (λ k h b. rw (long, lt-ltb k n (omega arith), getD-tabulate n f k free (omega arith)))
+    (λ k h b. rw (long, le-ltb k n (omega arith))) in
+    rw (e, same, long)
 
 -- ---- one record's mark
 

@@ -134,8 +134,3 @@ module _ (st : State) (l : List Record) (e : sound st l ≡ true) where
       (λ a. every-elim (soundRecord st) l i free (and-left (every (soundRecord st) l) (apart l) e) (ltb-true i (length l) a))
       (λ a. ap (soundRecord st) (List·getD-eq-default l free {n = i} (ltb-false i (length l) a)) ∙ free-sound st)
       (truth (ltb i (length l)))
-
-  -- no two open records share a stripe
-  pub sound-apart : apart l ≡ true
-  unfolding sound
-  sound-apart = and-right (every (soundRecord st) l) (apart l) e

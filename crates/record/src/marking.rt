@@ -5,7 +5,7 @@ ghost use Prim.Native.Nat.{_≤_, min};
 ghost use Rattle.record.specs.Marks.{among, soundMarks, heldMarks, freeMarks};
 use crate::Marks;
 use crate::sound::FREE;
-use crate::sound::NO_STRIPE;
+use geometry::NO_STRIPE;
 
 // How many records there are: the length, at most eight.
 pub(crate) fn filled(len: u64) -> usize

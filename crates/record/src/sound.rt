@@ -8,12 +8,12 @@ ghost use Rattle.record.specs.Marks.{markOf};
 ghost use Rattle.record.specs.Sound.{allZero, legalMask, legalRecord, legalChosen};
 use crate::Record;
 use crate::life::units;
+use geometry::NO_STRIPE;
 use geometry::NONE;
 use geometry::State;
 use graph::Judged;
 
-// A number that is no stripe's, a free record's mark, and that of one that is not sound.
-pub(crate) const NO_STRIPE: u64 = 1024;
+// A free record's mark, and that of one that is not sound.
 
 pub(crate) const FREE: u64 = 1025;
 

@@ -8,7 +8,7 @@ use crate::Record;
 use crate::Table;
 use crate::life::free;
 use crate::marking::filled;
-use crate::sound::NO_STRIPE;
+use geometry::NO_STRIPE;
 use geometry::State;
 
 impl Table {

@@ -21,7 +21,7 @@ use geometry::Geometry;
 use geometry::State;
 use record::Record;
 
-// Opens an array, and hands the new state out, all zero if refused. Every record is freed.
+// Opens an array, and hands the new state out, all zero if refused. Accepted, it frees every record.
 #[no_mangle]
 pub extern "C" fn coppicetune_open(
     state: &mut State,

@@ -6,6 +6,7 @@ ghost use mathlib.Core.Bool.{cond};
 ghost use Rattle.record.specs.Life.{free};
 ghost use Rattle.record.specs.Marks.{markIn, marksOf};
 ghost use Rattle.table.specs.Copy.{copyOf};
+use geometry::NO_STRIPE;
 use geometry::State;
 use record::Marks;
 use record::Record;
@@ -72,7 +73,7 @@ pub fn mark(table: &[Record], i: u64, state: State) -> u64
     if i < table.len() as u64 {
         return table[i as usize].mark(state);
     }
-    1024
+    NO_STRIPE
 }
 
 // The marks of the table: K is at most 8, and a table of another length is refused by its length alone.
@@ -84,7 +85,7 @@ pub fn marked(table: &[Record], state: State) -> Marks
     if 8 < n {
         top = 8;
     }
-    let mut marks = [1024; 8];
+    let mut marks = [NO_STRIPE; 8];
     let mut i: u64 = 0;
     while i < top {
         let m = mark(table, i, state);

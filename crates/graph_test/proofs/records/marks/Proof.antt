@@ -5,17 +5,15 @@ use mathlib.Core.List.{List}
 use mathlib.Core.Path.{_≡_, refl, ap, ap₂, _∙_}
 use native.Mathlib.Omega.{arith}
 use borrow.Author.Needs.{needs}
-use borrow.Author.Tests.{lt-ltb, le-ltb}
 use lib.ListN.{length, set}
-use Rattle.terms.proofs.Lists.{length-tabulate, getD-tabulate}
 use Rattle.terms.specs.Lists.{tabulate}
 use Rattle.geometry.specs.declared.State.{State}
 use Rattle.graph_test.proofs.records.marks.Statement.{statement}
 use Rattle.graph_test.proofs.records.marks.Tie as tie
 use Rattle.graph_test.specs.Numbers.{recordFrom, tableFrom, marksFrom}
-use Rattle.record.proofs.Filling.{entry, filling, filling-more, filling-is}
-use Rattle.record.specs.Life.{free}
-use Rattle.record.specs.Marks.{markOf, markIn, marksOf}
+use Rattle.record.proofs.Marked.{marks-filled}
+use Rattle.record.proofs.Filling.{entry, filling, filling-more}
+use Rattle.record.specs.Marks.{markOf, marksOf}
 
 abbrev Inv-loop : tie.InvT-loop
 Inv-loop numbers all state len top marks₀ i₀ marks i = (i ≤ top) × (marks ≡ filling 8 (λ k. markOf state (recordFrom all k)) 1024 i)
@@ -61,29 +59,15 @@ loop-again c =
           ∙ filling-more 8 (λ k. markOf state (recordFrom all k)) 1024 (l .loop .i) (omega (arith, l .before .capped .ensures, c .before .before .loop-test .taken)),
     )
 
--- what is filled in are the marks
-filled : (st : State) (all : List ℕ) → filling 8 (λ k. markOf st (recordFrom all k)) 1024 (min (length all / 8) 8) ≡ marksOf st (tableFrom all) .marks
-unfolding marksOf markIn tableFrom
-filled st all =
-    let n = length all / 8 in
-    let long = length-tabulate n (recordFrom all) in
-    filling-is 8 (min n 8) (λ k. markOf st (recordFrom all k)) 1024 (markIn st (tableFrom all))
-    (λ k h b. rw (long, lt-ltb k n (omega arith), getD-tabulate n (recordFrom all) k free (omega arith)))
-    (λ k h b. rw (long, le-ltb k n (omega arith)))
-
-made : (st : State) (all l : List ℕ) → l ≡ marksOf st (tableFrom all) .marks → record { marks = l; len = length all / 8 } ≡ marksOf st (tableFrom all)
-unfolding marksOf tableFrom
-made st all l e = rw (e, length-tabulate (length all / 8) (recordFrom all))
-
 returns : tie.Need-returns Inv-loop μ-loop
-unfolding marksFrom
+unfolding marksFrom tableFrom
 returns c =
     let l = c .before in
     let all = l .before .before .before .before .before .args .all .now in
     let state = l .before .before .state .result in
     let e : l .loop .i ≡ min (length all / 8) 8 = omega (arith, l .loop .inv .0, c .loop-test .left, l .before .capped .ensures) in
-    made state all _ (l .loop .inv .1 ∙ ap (filling 8 (λ k. markOf state (recordFrom all k)) 1024) e ∙ filled state all)
-    ∙ ap (λ (st : State). marksOf st (tableFrom all)) (l .before .before .state .ensures)
+    marks-filled state (length all / 8) (recordFrom all) _ (l .loop .inv .1 ∙ ap (filling 8 (λ k. markOf state (recordFrom all k)) 1024) e)
+    ∙ ap (λ (st : State). marksOf st (tabulate (length all / 8) (recordFrom all))) (l .before .before .state .ensures)
 
 pub marks-spec : {M : Type 1} → statement M
 marks-spec =

@@ -8,10 +8,10 @@ use borrow.Author.Needs.{needs}
 use lib.ListN.{getD, set}
 use Rattle.terms.specs.Lists.{tabulate}
 use Rattle.record.specs.Asked.{noStripe}
-use Rattle.record.specs.Life.{free}
+use Rattle.record.specs.Life.{free, recordsOf}
 use Rattle.record.specs.Marks.{markOf}
 use Rattle.record.proofs.Filling.{entry, filling, filling-more}
-use Rattle.record.proofs.Marked.{filled-marks, marks-made}
+use Rattle.record.proofs.Marked.{marks-filled}
 use Rattle.record.proofs.Table.marks.Statement.{statement}
 use Rattle.record.proofs.Table.marks.Tie as tie
 
@@ -59,11 +59,13 @@ loop-again c =
     )
 
 returns : tie.Need-returns Inv-loop μ-loop
+unfolding recordsOf
 returns c =
     let l = c .before in
     let a = l .before .before .args in
     let e : l .loop .i ≡ min (a .t1 .len) 8 = omega (arith, l .loop .inv .0, c .loop-test .left, l .before .filled .ensures) in
-    marks-made (a .state) (a .t1) _ (l .loop .inv .1 ∙ ap (filling 8 (λ k. markOf (a .state) (getD (a .t1 .records) k free)) noStripe) e ∙ filled-marks (a .state) (a .t1))
+    marks-filled (a .state) (a .t1 .len) (λ k. getD (a .t1 .records) k free) _
+    (l .loop .inv .1 ∙ ap (filling 8 (λ k. markOf (a .state) (getD (a .t1 .records) k free)) noStripe) e)
 
 pub marks-spec : {M : Type 1} → statement M
 marks-spec =
