@@ -33,7 +33,7 @@ use Rattle.history.proofs.Facts.{bounds, open-fits}
 use Rattle.history.proofs.Placed.{layout}
 use Rattle.history.proofs.Scans.{scan-same}
 use Rattle.history.proofs.Step.{kind-within}
-use Rattle.history.proofs.Tables.{Fit}
+use Rattle.record.proofs.Clauses.{Fit}
 use Rattle.history.proofs.Unseen.{admit-same, step-same}
 
 -- ---- images that agree on the cards that work

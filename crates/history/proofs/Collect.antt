@@ -17,7 +17,7 @@ use Rattle.history.specs.Promise.{recordAt}
 use Rattle.history.specs.World.{World}
 use Rattle.history.proofs.Facts.{open-fits}
 use Rattle.history.proofs.Invariant.{Sure}
-use Rattle.history.proofs.Tables.{free-sound, finished-not-open}
+use Rattle.record.proofs.Clauses.{free-sound, finished-not-open}
 use Rattle.history.proofs.Turn.{Turn, turned}
 
 -- to put back what stands there changes nothing

@@ -42,7 +42,7 @@ use Rattle.history.proofs.Places.{block-below}
 use Rattle.history.proofs.Records.{stepped-fit, request-advanced}
 use Rattle.history.proofs.Rows.{rowOf, afterRow, row-unit, after-elsewhere, after-size}
 use Rattle.history.proofs.Step.{limits, fits, works, matches, no-other, is-ready, within, counted-matches, misses}
-use Rattle.history.proofs.Tables.{Fit, fit-sound}
+use Rattle.record.proofs.Clauses.{Fit, fit-sound}
 use Rattle.history.proofs.Turn.{Turn, turned}
 use Rattle.history.proofs.View.{done-near}
 

@@ -12,7 +12,8 @@ use Rattle.geometry.specs.declared.State.{State}
 use Rattle.record.specs.Life.{free, isFree, isOpen}
 use Rattle.record.specs.declared.Record.{Record}
 use Rattle.array.proofs.Passed.{Right}
-use Rattle.history.proofs.Tables.{Fit, fit, sound-elim, open-not-free}
+use Rattle.record.proofs.Clauses.{Fit, fit, open-not-free}
+use Rattle.history.proofs.Tables.{sound-elim}
 
 module _ {st : State} {table : List Record} {work image : List ℕ} (right : Right st table work image) where
   pub bounds : Bounds (st .cards) (st .stripes) (st .block) (st .records)

@@ -35,7 +35,8 @@ use Rattle.history.proofs.Invariant.{Sure}
 use Rattle.history.proofs.Parities.{right-elim}
 use Rattle.history.proofs.Placed.{layout}
 use Rattle.history.proofs.ReadOff.{opened-size, opened-rests}
-use Rattle.history.proofs.Tables.{sound-intro, free-sound}
+use Rattle.record.proofs.Clauses.{free-sound}
+use Rattle.history.proofs.Tables.{sound-intro}
 
 module _ (g : Geometry) (out : ℕ) (table : List Record) (work image : List ℕ) where
   -- what is answered is accepted exactly where nothing is refused

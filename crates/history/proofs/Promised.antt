@@ -36,7 +36,7 @@ use Rattle.history.proofs.Invariant.{Matches, Sure}
 use Rattle.history.proofs.Records.{mask-units}
 use Rattle.history.proofs.Replies.{admit-number, step-number, collect-number, report-number, scan-number}
 use Rattle.history.proofs.Stripes.{promised-unit, promised-parity, promised-inferred, promised-scan}
-use Rattle.history.proofs.Tables.{open-not-free, finished-not-free}
+use Rattle.record.proofs.Clauses.{open-not-free, finished-not-free}
 
 module _ (w : World) (a : Account) (sure : Sure w a) where
   abbrev st : State

@@ -22,7 +22,7 @@ use Rattle.stripe.proofs.Heart.{numbers}
 use Rattle.stripe.specs.Invariant.{Proper}
 use Rattle.stripe.specs.Request.{begun, advanced, chosenAfresh}
 use Rattle.history.proofs.Invariant.{requestOf}
-use Rattle.history.proofs.Tables.{Fit}
+use Rattle.record.proofs.Clauses.{Fit}
 
 -- a legal mask as facts
 pub mask-some : (n mask : ℕ) → legalMask n mask ≡ true → ¬ (mask ≡ 0)

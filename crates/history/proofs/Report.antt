@@ -27,7 +27,8 @@ use Rattle.history.specs.World.{World}
 use Rattle.history.proofs.Facts.{bounds}
 use Rattle.history.proofs.Invariant.{Matches, Working, Sure}
 use Rattle.history.proofs.Rows.{rowOf, afterRow}
-use Rattle.history.proofs.Tables.{Fit, Sound, fit, fit-sound, sound-elim, sound-intro}
+use Rattle.record.proofs.Clauses.{Fit, fit, fit-sound}
+use Rattle.history.proofs.Tables.{Sound, sound-elim, sound-intro}
 
 module _ (w : World) (a : Account) (sure : Sure w a) (c : ℕ) (none-out : w .state .out ≡ none) (below : c < w .state .cards) where
   abbrev st : State

@@ -31,7 +31,8 @@ use Rattle.history.proofs.Facts.{bounds, open-fits}
 use Rattle.history.proofs.Invariant.{Matches, Working, Sure, requestOf}
 use Rattle.history.proofs.Records.{afresh-fit, request-afresh}
 use Rattle.history.proofs.Rows.{afterRow}
-use Rattle.history.proofs.Tables.{Fit, Sound, fit-sound, sound-elim, open-not-free}
+use Rattle.record.proofs.Clauses.{Fit, fit-sound, open-not-free}
+use Rattle.history.proofs.Tables.{Sound, sound-elim}
 use Rattle.history.proofs.Turn.{Turn, turned}
 
 -- ---- a step meets the missing position, or does not

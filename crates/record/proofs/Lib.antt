@@ -7,4 +7,5 @@ pub mod Clashes
 pub mod Eight
 pub mod Filling
 pub mod Marked
+pub mod Clauses
 pub mod Soundness

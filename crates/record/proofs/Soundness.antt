@@ -1,18 +1,17 @@
 -- What is known of a sound record that is not free, and what it allows: an open one has a ready step, and its steps can be marked and counted.
 -- Assumes nothing.
 use Prim.Native.Nat.{ℕ, _+_, _*_, _^_, _≤_, _<_}
-use mathlib.Core.Bool.{Bool, true, false, not, _&&_, _||_}
+use mathlib.Core.Bool.{true, false, not, _&&_}
 use mathlib.Core.List.{List}
 use mathlib.Core.Logic.{_⊎_, inl, inr, ⊎-elim}
-use mathlib.Core.Path.{_≡_, refl, ap, _∙_}
+use mathlib.Core.Path.{_≡_, ap, _∙_}
 use native.Mathlib.Omega.{arith}
-use borrow.Author.Tests.{ltb-true, ltb-false, lt-ltb, leb-true, eqb-true, eqb-false, ne-eqb, not-true}
+use borrow.Author.Tests.{ltb-true, ltb-false, lt-ltb, leb-true, eqb-true, eqb-false, not-true}
 use lib.Dec.{ltb, leb, eqb}
 use lib.ListN.{length, getD, List·getD-eq-default}
 use Rattle.terms.proofs.Lists.{every-elim}
 use Rattle.terms.proofs.Rows.{truth, and-left, and-right, or-cases, within-high}
 use Rattle.terms.specs.Lists.{every}
-use Rattle.terms.specs.Sets.{within}
 use Rattle.geometry.specs.Limits.{none}
 use Rattle.geometry.specs.Placement.{outIn}
 use Rattle.geometry.specs.declared.State.{State}
@@ -22,8 +21,9 @@ use Rattle.graph.specs.Choice.{choose}
 use Rattle.graph.specs.Order.{ready, complete, closed}
 use Rattle.record.specs.Asked.{fewIn, canCount, canStep, steppedOr, afreshOr}
 use Rattle.record.specs.Life.{free, isFree, isOpen, isFinished, isWrite, unitsOf, chosenAt, stepped, afresh}
-use Rattle.record.specs.Sound.{allZero, legalMask, legalRecord, legalChosen, rightGraph, rightSteps, lacksNone, rightCount, soundRecord, apart, sound}
+use Rattle.record.specs.Sound.{legalMask, legalChosen, rightGraph, rightSteps, lacksNone, rightCount, soundRecord, apart, sound}
 use Rattle.record.specs.declared.Record.{Record}
+use Rattle.record.proofs.Clauses.{fit, free-sound, open-not-free}
 
 -- the clauses, as facts
 pub record Sound (st : State) (r : Record) : Type 0 where
@@ -42,55 +42,36 @@ pub record Sound (st : State) (r : Record) : Type 0 where
 
 module _ (st : State) (r : Record) where
   pub sound-elim : soundRecord st r ≡ true → isFree r ≡ false → Sound st r
-  unfolding soundRecord legalRecord legalMask legalChosen rightGraph rightSteps rightCount lacksNone
+  unfolding legalMask legalChosen rightGraph rightSteps rightCount lacksNone
   sound-elim e f =
-      let g1 : Bool = legalRecord st r in
-      let g2 : Bool = legalChosen st r in
-      let g3 : Bool = rightGraph st r in
-      let g4 : Bool = rightSteps st r in
-      let g5 : Bool = rightCount st r in
-      let all : (g1 && g2 && g3 && g4 && g5) ≡ true = rw f at e in
-      let c4 = and-left (g1 && g2 && g3 && g4) g5 all in
-      let c3 = and-left (g1 && g2 && g3) g4 c4 in
-      let c2 = and-left (g1 && g2) g3 c3 in
-      let c1 = and-left g1 g2 c2 in
-      let l1 : Bool = isOpen r || isFinished r in
-      let l2 : Bool = within 0 1 (r .write) in
-      let l3 : Bool = ltb (r .stripe) (st .stripes) in
-      let l4 : Bool = legalMask (unitsOf st) (r .mask) in
-      let d4 : (l1 && l2 && l3 && l4) ≡ true = and-left (l1 && l2 && l3 && l4) (within 1 6 (r .graph)) c1 in
-      let d3 = and-left (l1 && l2 && l3) l4 d4 in
-      let d2 = and-left (l1 && l2) l3 d3 in
-      let mask = and-right (l1 && l2 && l3) l4 d4 in
-      let whole : Bool = complete (unitsOf st) (r .graph) (r .mask) (chosenAt st r) (r .done) in
-      let counts = and-right (g1 && g2 && g3 && g4) g5 all in
+      let b = fit st r e f in
+      let some = not (eqb (r .mask) 0) in
+      let whole = complete (unitsOf st) (r .graph) (r .mask) (chosenAt st r) (r .done) in
+      let most = 2 * unitsOf st in
       record {
-        busy = ⊎-elim (λ q. inl (eqb-true (r .phase) 1 q)) (λ q. inr (eqb-true (r .phase) 2 q)) (or-cases (isOpen r) (isFinished r) (and-left l1 l2 d2));
-        kind = within-high 0 1 (r .write) (and-right l1 l2 d2);
-        in-array = ltb-true (r .stripe) (st .stripes) (and-right (l1 && l2) l3 d3);
-        some-unit = eqb-false (r .mask) 0 (not-true (eqb (r .mask) 0) (and-left (not (eqb (r .mask) 0)) (ltb (r .mask) (2 ^ unitsOf st)) mask));
-        units-only = ltb-true (r .mask) (2 ^ unitsOf st) (and-right (not (eqb (r .mask) 0)) (ltb (r .mask) (2 ^ unitsOf st)) mask);
+        busy = ⊎-elim (λ q. inl (eqb-true (r .phase) 1 q)) (λ q. inr (eqb-true (r .phase) 2 q)) (or-cases (isOpen r) (isFinished r) (b .going));
+        kind = within-high 0 1 (r .write) (b .kind);
+        in-array = b .stripe-below;
+        some-unit = eqb-false (r .mask) 0 (not-true (eqb (r .mask) 0) (and-left some (ltb (r .mask) (2 ^ unitsOf st)) (b .mask-legal)));
+        units-only = ltb-true (r .mask) (2 ^ unitsOf st) (and-right some (ltb (r .mask) (2 ^ unitsOf st)) (b .mask-legal));
         known-card =
             ⊎-elim (λ q. inl (eqb-true (r .chosen) none q)) (λ q. inr (eqb-true (r .chosen) (outIn st (r .stripe)) q))
-            (or-cases (eqb (r .chosen) none) (eqb (r .chosen) (outIn st (r .stripe))) (and-right g1 g2 c2));
-        right-graph = eqb-true (r .graph) (choose (unitsOf st) (isWrite r) (r .mask) (chosenAt st r)) (and-right (g1 && g2) g3 c3);
-        in-order = and-right (g1 && g2 && g3) g4 c4;
+            (or-cases (eqb (r .chosen) none) (eqb (r .chosen) (outIn st (r .stripe))) (b .chosen-legal));
+        right-graph = eqb-true (r .graph) (choose (unitsOf st) (isWrite r) (r .mask) (chosenAt st r)) (b .right-graph);
+        in-order = b .right-steps;
         open-lacks = λ o.
-            let k : (not whole && leb (r .count) (2 * unitsOf st + 2)) ≡ true = rw o at counts in
-            (not-true whole (and-left (not whole) (leb (r .count) (2 * unitsOf st + 2)) k), leb-true (r .count) (2 * unitsOf st + 2) (and-right (not whole) (leb (r .count) (2 * unitsOf st + 2)) k));
+            let k : (not whole && leb (r .count) (most + 2)) ≡ true = rw o at (b .right-count) in
+            (not-true whole (and-left (not whole) (leb (r .count) (most + 2)) k), leb-true (r .count) (most + 2) (and-right (not whole) (leb (r .count) (most + 2)) k));
         finished-lacks = λ o.
-            let k : (whole && leb (r .count) (2 * unitsOf st + 3)) ≡ true = rw o at counts in
-            (and-left whole (leb (r .count) (2 * unitsOf st + 3)) k, leb-true (r .count) (2 * unitsOf st + 3) (and-right whole (leb (r .count) (2 * unitsOf st + 3)) k));
+            let k : (whole && leb (r .count) (most + 3)) ≡ true = rw o at (b .right-count) in
+            (and-left whole (leb (r .count) (most + 3)) k, leb-true (r .count) (most + 3) (and-right whole (leb (r .count) (most + 3)) k));
       }
-
-  open-busy : isOpen r ≡ true → isFree r ≡ false
-  open-busy o = ne-eqb (r .phase) 0 (λ q. let z = eqb-true (r .phase) 1 o in omega arith)
 
   -- an open one has a ready step
   pub sound-ready : soundRecord st r ≡ true → isOpen r ≡ true
       → (k : ℕ) × (ready (unitsOf st) (r .graph) (r .mask) (chosenAt st r) (r .done) k ≡ true)
   sound-ready s o =
-      progress (unitsOf st) (r .graph) (r .mask) (chosenAt st r) (r .done) (sound-elim s (open-busy o) .open-lacks o .0)
+      progress (unitsOf st) (r .graph) (r .mask) (chosenAt st r) (r .done) (sound-elim s (open-not-free r o) .open-lacks o .0)
 
   few-elim : fewIn st ≡ true → unitsOf st ≤ 7
   unfolding fewUnits
@@ -113,17 +94,13 @@ module _ (st : State) (r : Record) where
       let few = few-elim n in
       let a = ready-elim (unitsOf st) (r .graph) (r .mask) (chosenAt st r) (r .done) k e in
       let below = member-below (unitsOf st) (r .graph) (r .mask) (chosenAt st r) k (a .in-graph) in
-      rw (n, lt-ltb k 64 (omega arith), a .not-done, sound-counts s (open-busy o) n)
+      rw (n, lt-ltb k 64 (omega arith), a .not-done, sound-counts s (open-not-free r o) n)
 
   pub afresh-is : soundRecord st r ≡ true → isOpen r ≡ true → fewIn st ≡ true → afreshOr st r ≡ afresh st r
   unfolding afreshOr
-  afresh-is s o n = rw (sound-counts s (open-busy o) n)
+  afresh-is s o n = rw (sound-counts s (open-not-free r o) n)
 
 -- ---- of a table
-
-pub free-sound : (st : State) → soundRecord st free ≡ true
-unfolding soundRecord allZero
-free-sound st = refl
 
 module _ (st : State) (l : List Record) (e : sound st l ≡ true) where
   -- each record is sound, and past the end the free one
