@@ -39,3 +39,12 @@ pub struct Marks {
     pub marks: [u64; 8],
     pub len: u64,
 }
+
+// What one look at a table finds: how many records it has, whether it is sound, the stripe that each of up to eight holds (or a number
+// that is no stripe's), and the lowest free record (its length where none is free).
+pub struct Survey {
+    pub len: u64,
+    pub sound: bool,
+    pub held: [u64; 8],
+    pub free: u64,
+}
