@@ -1,8 +1,5 @@
 -- The laws of the calls' definitions.
 -- What an accepted call has passed, what is not refused, and that a refused call changes nothing
-pub mod Passed
-pub mod Granted
-pub mod Refused
 -- What a step, an admission and a collect alter, block by block
 pub mod Frames
 pub mod Steps
@@ -31,3 +28,10 @@ pub mod Accepted
 pub mod Answered
 pub mod Looks
 pub mod Opened
+pub mod Lent
+pub mod Replies
+pub mod Openings
+pub mod Admissions
+pub mod Steppings
+pub mod Collections
+pub mod Scans
