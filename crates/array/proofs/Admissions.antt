@@ -3,10 +3,9 @@
 use Prim.Native.Nat.{ℕ, _<_}
 use mathlib.Core.Bool.{Bool, true, false, cond, _||_}
 use mathlib.Core.List.{List, _++_}
-use mathlib.Core.Path.{_≡_, refl, sym, ap, _∙_}
+use mathlib.Core.Path.{_≡_, refl, sym, _∙_}
 use native.Mathlib.Omega.{arith}
 use borrow.Author.Tests.{eqb-true, eq-eqb, ne-eqb, leb-false, not-false}
-use lib.Dec.{eqb}
 use lib.ListN.{length, set}
 use Rattle.terms.specs.Lists.{every}
 use Rattle.terms.specs.Reply.{accepted, refused}
@@ -19,7 +18,7 @@ use Rattle.record.specs.Life.{unitsOf, admitted}
 use Rattle.record.specs.Sound.{held, legalMask, lowestFree}
 use Rattle.record.specs.Survey.{surveyOf}
 use Rattle.record.specs.declared.Record.{Record}
-use Rattle.array.specs.Admission.{Admission, AdmissionBy, keepUnits, admissionBy, admission}
+use Rattle.array.specs.Admission.{keepUnits, admissionBy, admission}
 use Rattle.array.specs.Lent.{tableWrong, lentRows, unitBytes}
 use Rattle.array.specs.Refusals.{admitRows, admitRefusal, payloadWrong}
 use Rattle.array.proofs.Lent.{Right, Lently, lent-right, passed-rows, rows-passed, own-rows, all-fine, free-seen, held-seen}

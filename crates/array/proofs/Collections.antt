@@ -5,7 +5,6 @@ use mathlib.Core.Bool.{Bool, true, false, cond, not, _&&_, _||_}
 use mathlib.Core.List.{List, _++_}
 use mathlib.Core.Path.{_≡_, refl, ap}
 use borrow.Author.Tests.{eq-eqb, ne-eqb, leb-false, lt-leb, not-false}
-use lib.Dec.{eqb}
 use lib.ListN.{getD, set}
 use Rattle.terms.specs.Lists.{every}
 use Rattle.terms.specs.Reply.{accepted, refused}
@@ -18,7 +17,7 @@ use Rattle.record.specs.Life.{free, isFinished, isWrite}
 use Rattle.record.specs.Sound.{soundRecord}
 use Rattle.record.specs.Survey.{surveyOf}
 use Rattle.record.specs.declared.Record.{Record}
-use Rattle.array.specs.Collection.{CollectionBy, Collection, handOver, collectionBy, collection}
+use Rattle.array.specs.Collection.{handOver, collectionBy, collection}
 use Rattle.array.specs.Lent.{tableWrong, lentRows}
 use Rattle.array.specs.Refusals.{collectRows, collectRefusal, resultShort}
 use Rattle.array.proofs.Lent.{Right, Lently, rows-passed, own-rows, collect-fine}

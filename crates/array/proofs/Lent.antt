@@ -1,20 +1,20 @@
 -- What is lent is right: as a record of facts, from the tests that every call on the table begins with, and back. A survey of such a table says what
 -- stands in it.
 -- Assumes nothing.
-use Prim.Native.Nat.{ℕ, _<_, _≤_}
+use Prim.Native.Nat.{ℕ, _<_}
 use mathlib.Core.Bool.{Bool, true, false, not, _&&_, _||_}
-use mathlib.Core.List.{List, [], _∷_, _++_}
+use mathlib.Core.List.{List, _++_}
 use mathlib.Core.Logic.{_⊎_, inl, inr, ⊎-elim}
-use mathlib.Core.Path.{_≡_, refl, sym, ap, _∙_}
+use mathlib.Core.Path.{_≡_, sym, ap, _∙_}
 use native.Mathlib.Omega.{arith}
 use borrow.Author.Tests.{eqb-true, eq-eqb, ltb-true, not-false}
-use lib.Dec.{eqb, ltb}
+use lib.Dec.{ltb}
 use lib.ListN.{length, getD}
-use Rattle.terms.specs.Reply.{Row, row, firstRow}
+use Rattle.terms.specs.Reply.{Row, firstRow}
 use Rattle.terms.proofs.Refusals.{Failed, giving, given, firstRow-behind}
-use Rattle.terms.proofs.Rows.{or-false-left, or-false-right, and-left, and-both}
+use Rattle.terms.proofs.Rows.{or-false-left, or-false-right, and-both}
 use Rattle.geometry.proofs.Lengths.{state-bounds, image-length, work-length}
-use Rattle.geometry.specs.Limits.{beyondState, isLost}
+use Rattle.geometry.specs.Limits.{beyondState}
 use Rattle.geometry.specs.Store.{imageWrong, workWrong, imageSize, workSize}
 use Rattle.geometry.specs.declared.State.{State}
 use Rattle.record.proofs.Soundness as soundness
@@ -23,7 +23,6 @@ use Rattle.record.specs.Life.{free}
 use Rattle.record.specs.Sound.{sound, soundRecord, held, lowestFree}
 use Rattle.record.specs.Survey.{looksAt, surveyOf, heldIn}
 use Rattle.record.specs.declared.Record.{Record}
-use Rattle.record.specs.declared.Survey.{Survey}
 use Rattle.array.specs.Lent.{tableWrong, lentRows}
 
 -- what goes from call to call is right: the limits hold, each lent thing has its length, the table is sound, the array is not lost

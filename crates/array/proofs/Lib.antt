@@ -35,3 +35,4 @@ pub mod Admissions
 pub mod Steppings
 pub mod Collections
 pub mod Scans
+pub mod Reports

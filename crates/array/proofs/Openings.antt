@@ -1,7 +1,7 @@
 -- Laws of opening over a table: its number, what an accepted one has passed and makes, and that a refused one frees nothing.
 -- Assumes nothing.
 use Prim.Native.Nat.{ℕ}
-use mathlib.Core.Bool.{Bool, true, false, not, _&&_, _||_}
+use mathlib.Core.Bool.{Bool, false, not, _&&_, _||_}
 use mathlib.Core.List.{List, [], _∷_}
 use mathlib.Core.Path.{_≡_, refl, sym, _∙_}
 use borrow.Author.Tests.{eq-eqb, ne-eqb}
@@ -21,7 +21,7 @@ use Rattle.parity.specs.Scan.{nothingHeld}
 use Rattle.record.specs.Life.{free}
 use Rattle.record.specs.declared.Record.{Record}
 use Rattle.array.specs.Lent.{tableWrong}
-use Rattle.array.specs.Opening.{Opening, OpeningBy, zeroState, openingBy, opening}
+use Rattle.array.specs.Opening.{zeroState, openingBy, opening}
 use Rattle.array.specs.Refusals.{opened, openRefusal}
 use Rattle.array.proofs.Lent.{table-length}
 use Rattle.array.proofs.Replies.{number-is-13}

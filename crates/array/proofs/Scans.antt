@@ -1,11 +1,10 @@
 -- Laws of the scan over a table: its number, when it finds parity right, and that what is lent right is not refused for it.
 -- Assumes nothing.
 use Prim.Native.Nat.{ℕ}
-use mathlib.Core.Bool.{Bool, true, false, not, _||_}
+use mathlib.Core.Bool.{Bool, true, not, _||_}
 use mathlib.Core.List.{List}
 use mathlib.Core.Path.{_≡_, refl, ap, _∙_}
 use borrow.Author.Tests.{eq-eqb}
-use lib.Dec.{eqb}
 use Rattle.terms.specs.Lists.{every}
 use Rattle.terms.specs.Reply.{accepted}
 use Rattle.terms.proofs.Refusals.{Failed, giving, failed-zero, failed-both}

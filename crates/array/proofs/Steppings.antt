@@ -22,7 +22,7 @@ use Rattle.record.specs.Survey.{surveyOf}
 use Rattle.record.specs.declared.Record.{Record}
 use Rattle.array.specs.Lent.{tableWrong, lentRows}
 use Rattle.array.specs.Refusals.{stepRows, stepRefusal, stepReady}
-use Rattle.array.specs.Stepping.{SteppingBy, Stepping, meetsOut, accepting, steppingBy, stepping}
+use Rattle.array.specs.Stepping.{SteppingBy, meetsOut, accepting, steppingBy, stepping}
 use Rattle.array.proofs.Lent.{Right, Lently, lent-right, passed-rows, rows-passed, own-rows, step-fine}
 
 -- an accepted step answers 0, done or chosen afresh, and changes the record's own place

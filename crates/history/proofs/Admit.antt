@@ -17,7 +17,7 @@ use Rattle.record.specs.Sound.{lowestFree}
 use Rattle.record.specs.declared.Record.{Record}
 use Rattle.array.proofs.Frames.{newByte, gotByte}
 use Rattle.array.proofs.Kept.{kept-length, kept-got, kept-other, kept-same}
-use Rattle.array.proofs.Passed.{Admitting}
+use Rattle.array.proofs.Admissions.{Admitting}
 use Rattle.array.specs.Admission.{keepUnits}
 use Rattle.array.specs.Lent.{unitBytes, rank}
 use Rattle.stripe.proofs.Bytes.{bytes}

@@ -6,23 +6,24 @@ use mathlib.Core.List.{List, []}
 use mathlib.Core.Logic.{_⊎_, inl, inr}
 use mathlib.Core.Path.{_≡_, refl, sym, ap, _∙_}
 use native.Mathlib.Omega.{arith}
-use borrow.Author.Tests.{eqb-true}
+use borrow.Author.Tests.{eqb-true, eqb-false}
 use lib.Dec.{eqb}
-use Rattle.terms.specs.Reply.{refused}
+use lib.ListN.{set}
 use Rattle.terms.proofs.Rows.{truth}
 use Rattle.geometry.proofs.Bounds.{Bounds, within-limits}
-use Rattle.geometry.specs.Limits.{geometryOf, none, beyondState}
+use Rattle.geometry.specs.Limits.{geometryOf, none}
 use Rattle.geometry.specs.Placement.{outIn}
 use Rattle.geometry.specs.Report.{reporting, reportRefusal, marked, withOut, withLost}
 use Rattle.geometry.specs.declared.State.{State}
 use Rattle.graph.specs.Steps.{stepOf}
 use Rattle.record.specs.Life.{unitsOf, chosenAt, missingIn}
 use Rattle.record.specs.declared.Record.{Record}
-use Rattle.array.proofs.Passed.{Ready, step-passed, passed}
+use Rattle.array.proofs.Reports.{report-passed}
+use Rattle.array.proofs.Steppings.{Ready, stepNumber, step-passed, step-accepted, step-refused}
 use Rattle.array.proofs.Steps.{Within}
-use Rattle.array.specs.Admission.{Admission, admission}
-use Rattle.array.specs.Refusals.{stepRefusal, stepReady}
-use Rattle.array.specs.Stepping.{Stepping, meetsOut, accepting, stepping}
+use Rattle.array.specs.Admission.{Admission, admissionBy, admission}
+use Rattle.array.specs.Refusals.{stepReady}
+use Rattle.array.specs.Stepping.{SteppingBy, meetsOut, accepting}
 use Rattle.stripe.proofs.Readied.{readied}
 use Rattle.history.specs.Answers.{answerTo, Alike}
 use Rattle.history.specs.History.{Decayed}
@@ -72,7 +73,7 @@ module _ (w : World) (image′ : List ℕ) (same : Decayed (w .state) (w .image)
   )
     where
       equal : admission (w .state) (w .table) (w .work) image′ write s mask payload ≡ admission (w .state) (w .table) (w .work) (w .image) write s mask payload
-      equal = unfold admission in rw (admit-same (w .state) (w .image) image′ same (w .table) (w .work) write s mask payload)
+      equal = unfold admission admissionBy in rw (admit-same (w .state) (w .image) image′ same (w .table) (w .work) write s mask payload)
 
   collect-both : (i : ℕ) (result : List ℕ) → Both (collect i result)
   unfolding play
@@ -87,9 +88,9 @@ module _ (w : World) (image′ : List ℕ) (same : Decayed (w .state) (w .image)
 
   -- with none out, images that agree on the cards that work agree on all, so also on those that work when one goes out
   out-same : (c : ℕ) → reportRefusal (w .state) c ≡ 0 → w .state .out ≡ none → Decayed (withOut (w .state) c) (w .image) image′
-  unfolding reportRefusal outIn
+  unfolding outIn
   out-same c e o =
-      let limits = within-limits (geometryOf (w .state)) (w .state .out) (passed (beyondState (w .state)) 0 _ e .0) in
+      let limits = within-limits (geometryOf (w .state)) (w .state .out) (report-passed (w .state) c e .limits) in
       record {
         same-length = same .same-length;
         same-bytes = λ d s b hd hs hb works. same .same-bytes d s b hd hs hb (λ f. omega (arith, limits .cards-high));
@@ -125,14 +126,14 @@ module _ (w : World) (image′ : List ℕ) (same : Decayed (w .state) (w .image)
     r = recordAt w i
 
     -- two outcomes of a step that answer the same and leave alike
-    record Same (a b : Stepping) : Type 0 where
+    record Same (a b : SteppingBy) : Type 0 where
       same-reply : b .reply ≡ a .reply
-      same-table : b .table ≡ a .table
+      same-stands : b .stands ≡ a .stands
       same-work : b .work ≡ a .work
       same-image : Decayed (w .state) (a .image) (b .image)
 
     accepted-same : Ready (w .state) (w .table) (w .work) (w .image) i k
-        → Same (accepting (w .state) (w .table) (w .work) (w .image) i r k) (accepting (w .state) (w .table) (w .work) image′ i r k)
+        → Same (accepting (w .state) (w .work) (w .image) i r k) (accepting (w .state) (w .work) image′ i r k)
     unfolding accepting
     accepted-same ok = go (truth meets)
       where
@@ -157,13 +158,13 @@ module _ (w : World) (image′ : List ℕ) (same : Decayed (w .state) (w .image)
             (readied n (r .graph) (r .mask) (chosenAt (w .state) r) (r .done) k (unfold stepReady in ok .is-ready) .as-step)
 
         go : (meets ≡ true) ⊎ (meets ≡ false)
-            → Same (accepting (w .state) (w .table) (w .work) (w .image) i r k) (accepting (w .state) (w .table) (w .work) image′ i r k)
-        go (inl e) = rw e (record { same-reply = refl; same-table = refl; same-work = refl; same-image = same })
+            → Same (accepting (w .state) (w .work) (w .image) i r k) (accepting (w .state) (w .work) image′ i r k)
+        go (inl e) = rw e (record { same-reply = refl; same-stands = refl; same-work = refl; same-image = same })
         go (inr e) =
             rw e
             (record {
               same-reply = refl;
-              same-table = refl;
+              same-stands = refl;
               same-work =
                   work-same (w .state) (w .work) (w .image) image′ same r i (layout (w .state .cards) some-card) (ok .right .image-right) (fits .stripe-below)
                   (stepOf n k) within e;
@@ -172,31 +173,36 @@ module _ (w : World) (image′ : List ℕ) (same : Decayed (w .state) (w .image)
                   (stepOf n k) within (ok .record-below) (ok .right .work-right);
             })
 
-    stepping-same : Same (stepping (w .state) (w .table) (w .work) (w .image) i k) (stepping (w .state) (w .table) (w .work) image′ i k)
-    unfolding stepping
-    stepping-same = rw (step-same (w .state) (w .image) image′ same (w .table) (w .work) i k) (go (truth (eqb number 0)))
-      where
-        number : ℕ
-        number = stepRefusal (w .state) (w .table) (w .work) (w .image) i k
-
-        go : (eqb number 0 ≡ true) ⊎ (eqb number 0 ≡ false)
-            → Same
-            (cond (eqb number 0) (accepting (w .state) (w .table) (w .work) (w .image) i r k) (record { reply = refused number; table = w .table; work = w .work; image = w .image }))
-            (cond (eqb number 0) (accepting (w .state) (w .table) (w .work) image′ i r k) (record { reply = refused number; table = w .table; work = w .work; image = image′ }))
-        go (inl e) = rw e (accepted-same (step-passed (w .state) (w .table) (w .work) (w .image) i k (eqb-true number 0 e)))
-        go (inr e) = rw e (record { same-reply = refl; same-table = refl; same-work = refl; same-image = same })
-
+    -- the two outcomes of the whole call
     step-both : Both (step i k)
     unfolding play
-    step-both = (
-      rw (stepping-same .same-reply),
-      record {
-        same-state = refl;
-        same-table = stepping-same .same-table;
-        same-work = stepping-same .same-work;
-        same-image = stepping-same .same-image;
-      },
-    )
+    step-both = go (truth (eqb number 0))
+      where
+        number : ℕ
+        number = stepNumber (w .state) (w .table) (w .work) (w .image) i k
+
+        other : stepNumber (w .state) (w .table) (w .work) image′ i k ≡ number
+        other = step-same (w .state) (w .image) image′ same (w .table) (w .work) i k
+
+        go : (eqb number 0 ≡ true) ⊎ (eqb number 0 ≡ false) → Both (step i k)
+        go (inl e) =
+            let ok = eqb-true number 0 e in
+            let alike = accepted-same (step-passed (w .state) (w .table) (w .work) (w .image) i k ok) in
+            rw (step-accepted (w .state) (w .table) (w .work) (w .image) i k ok, step-accepted (w .state) (w .table) (w .work) image′ i k (other ∙ ok)) (
+              rw (alike .same-reply),
+              record {
+                same-state = refl;
+                same-table = ap (set (w .table) i) (alike .same-stands);
+                same-work = alike .same-work;
+                same-image = alike .same-image;
+              },
+            )
+        go (inr e) =
+            let d = eqb-false number 0 e in
+            rw (step-refused (w .state) (w .table) (w .work) (w .image) i k d, step-refused (w .state) (w .table) (w .work) image′ i k (λ z. d (sym other ∙ z))) (
+              rw other,
+              record { same-state = refl; same-table = refl; same-work = refl; same-image = same },
+            )
 
   pub both : (e : Event) → Both e
   both (admit write s mask payload) = admit-both write s mask payload

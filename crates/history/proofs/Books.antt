@@ -3,24 +3,24 @@
 -- Assumes nothing.
 use Prim.Native.Nat.{ℕ}
 use mathlib.Core.Bool.{Bool, true, false, cond}
-use mathlib.Core.List.{List, [], _∷_, _++_}
+use mathlib.Core.List.{List, [], _∷_}
 use mathlib.Core.Logic.{_⊎_, inl, inr}
 use mathlib.Core.Path.{_≡_, refl, sym, ap, _∙_}
 use native.Mathlib.Omega.{arith}
 use borrow.Author.Tests.{eqb-true, eqb-false, ne-eqb}
-use lib.Dec.{eqb, leb}
+use lib.Dec.{eqb}
 use Rattle.terms.specs.Lists.{every}
 use Rattle.terms.specs.Reply.{onAccept}
 use Rattle.terms.proofs.Rows.{and-left, and-right, truth}
-use Rattle.geometry.specs.Limits.{none, beyondState, isLost}
+use Rattle.geometry.specs.Limits.{none}
 use Rattle.geometry.specs.Report.{reportRefusal, marked, withOut, withLost}
 use Rattle.geometry.specs.declared.State.{State}
-use Rattle.array.proofs.Passed.{passed}
+use Rattle.array.proofs.Reports.{report-passed}
 use Rattle.array.specs.Refusals.{opened as openedState}
 use Rattle.history.specs.Account.{Account, withEntry, stepNoted, reported, entered, noted}
 use Rattle.history.specs.History.{History, opened, next, decayed, openedAccount, Always, reportedIn, cardsOut, OneCard, Whole}
 use Rattle.history.specs.World.{World, Event, admit, step, report, collect, scan, Outcome, Engine, play}
-use Rattle.history.proofs.Opened.{open-passed, open-state}
+use Rattle.history.proofs.Opened.{open-state}
 use Rattle.history.proofs.Replies.{report-number, report-taken, refused-leaves}
 
 -- ---- what a call makes of the account's state
@@ -148,17 +148,9 @@ one-card h (c, all) = only-kept c h all .not-lost
 -- ---- ours: the account's state is the world's
 
 -- an accepted report is of another card than the one that is out, so it notes what report marks
-pub another : (st : State) (c : ℕ) → reportRefusal st c ≡ 0 → ¬ (c ≡ st .out)
-unfolding reportRefusal
-another st c e =
-    let a = passed (beyondState st) 0 _ e in
-    let b = passed (isLost st) 3 _ (a .1) in
-    let d = passed (leb (st .cards) c) 4 _ (b .1) in
-    eqb-false c (st .out) (passed (eqb c (st .out)) 11 [] (d .1) .0)
-
 pub report-noted : (st : State) (c : ℕ) → reportRefusal st c ≡ 0 → reported st c ≡ marked st c
 unfolding reported marked
-report-noted st c ok = rw (ne-eqb c (st .out) (another st c ok))
+report-noted st c ok = rw (ne-eqb c (st .out) (report-passed st c ok .another))
 
 module _ (w : World) (a : Account) (same : w .state ≡ a .state) where
   accepted-same : (e : Event) → play w e .reply .number ≡ 0 → play w e .world .state ≡ entered a e (play w e) .state
@@ -183,6 +175,6 @@ module _ (w : World) (a : Account) (same : w .state ≡ a .state) where
       go (inr f) = rw (f, refused-leaves w e (eqb-false (play w e .reply .number) 0 f)) same
 
 pub state-kept : {w : World} {a : Account} → History play w a → w .state ≡ a .state
-state-kept (opened g out table work image ok) = unfold openedAccount in open-state g out table work image (open-passed g out table work image ok)
+state-kept (opened g out table work image ok) = unfold openedAccount in open-state g out table work image ok
 state-kept (next {w} {a} h e) = same-after w a (state-kept h) e
 state-kept (decayed h image d) = state-kept h

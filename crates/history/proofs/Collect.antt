@@ -7,7 +7,7 @@ use native.Mathlib.Omega.{arith}
 use lib.ListN.{set}
 use Rattle.terms.proofs.Rows.{true≢false}
 use Rattle.record.specs.Life.{free}
-use Rattle.array.proofs.Passed.{Collecting}
+use Rattle.array.proofs.Collections.{Collecting}
 use Rattle.stripe.specs.Blocks.{changed}
 use Rattle.history.specs.Account.{Account, vacant}
 use Rattle.history.specs.World.{World, recordAt}

@@ -1,7 +1,7 @@
 -- Everything that the calls compute with, under one name: a line `unfolding computed` opens it all, for examples that are shown by computation.
 -- Assumes nothing.
 use lib.Count.{ones, onesIn}
-use Rattle.terms.specs.Lists.{tabulate, part, put, every, changes}
+use Rattle.terms.specs.Lists.{tabulate, part, put, every, among, changes}
 use Rattle.terms.specs.Reply.{firstRow}
 use Rattle.terms.specs.Sets.{within, bit, allBelow, lowest, xorTo}
 use Rattle.geometry.specs.Answers.{placeRefusal, placeReply, blockAtRefusal, blockAtReply}
@@ -16,21 +16,23 @@ use Rattle.graph.specs.Sums.{takesNew, sumsToRead}
 use Rattle.parity.specs.Parity.{byteAt, parityByte, wrongByte, wrongStripe, rightParity, disagreement}
 use Rattle.record.specs.Life.{admitted, stepped, afresh}
 use Rattle.record.specs.Sound.{allZero, legalMask, legalRecord, legalChosen, rightGraph, rightSteps, lacksNone, rightCount, soundRecord}
+use Rattle.record.specs.Asked.{heldStripe}
+use Rattle.record.specs.Survey.{looksAt, unseen, surveyOf, heldIn}
 use Rattle.record.specs.Sound.{clash, apart, sound, holds, held, lowestFree}
-use Rattle.array.specs.Admission.{keepUnits, admission}
-use Rattle.array.specs.Collection.{handOver, collecting, collection}
-use Rattle.array.specs.Lent.{tableWrong, unitBytes, rank}
-use Rattle.array.specs.Opening.{opening}
-use Rattle.array.specs.Refusals.{opened as openedState, openRefusal, payloadWrong, admitRefusal, stepReady, stepRefusal, resultShort, collectRefusal, scanRefusal}
-use Rattle.array.specs.Scan.{scanReply}
-use Rattle.array.specs.Stepping.{meetsOut, sumByte, sumAt, workAfter, imageAfter, accepting, stepping}
+use Rattle.array.specs.Admission.{keepUnits, admissionBy, admission}
+use Rattle.array.specs.Collection.{handOver, collectionBy, collection}
+use Rattle.array.specs.Lent.{tableWrong, lentRows, unitBytes, rank}
+use Rattle.array.specs.Opening.{openingBy, opening}
+use Rattle.array.specs.Refusals.{opened as openedState, openRefusal, payloadWrong, admitRows, admitRefusal, stepReady, stepRows, stepRefusal, resultShort, collectRows, collectRefusal, scanRows, scanRefusal}
+use Rattle.array.specs.Scan.{scanReplyBy, scanReply}
+use Rattle.array.specs.Stepping.{meetsOut, sumByte, sumAt, workAfter, imageAfter, accepting, steppingBy, stepping}
 use Rattle.history.specs.Examples.{opened, after}
 use Rattle.history.specs.History.{openedWorld}
 use Rattle.history.specs.Row.{blockAt, restOf}
 use Rattle.history.specs.World.{play}
 
 unfoldable words : Unit {0}
-unfolding ones onesIn tabulate part put every changes firstRow within bit allBelow lowest xorTo
+unfolding ones onesIn tabulate part put every among changes firstRow within bit allBelow lowest xorTo
 words = tt
 
 unfoldable places : Unit {0}
@@ -54,15 +56,15 @@ unfolding admitted stepped afresh allZero legalMask legalRecord legalChosen righ
 records = tt
 
 unfoldable tables : Unit {0}
-unfolding clash apart sound holds held lowestFree tableWrong unitBytes rank
+unfolding clash apart sound holds held lowestFree heldStripe looksAt unseen surveyOf heldIn tableWrong lentRows unitBytes rank
 tables = tt
 
 unfoldable refusals : Unit {0}
-unfolding openRefusal payloadWrong admitRefusal stepReady stepRefusal resultShort collectRefusal scanRefusal
+unfolding openRefusal payloadWrong admitRows admitRefusal stepReady stepRows stepRefusal resultShort collectRows collectRefusal scanRows scanRefusal
 refusals = tt
 
 unfoldable calls : Unit {0}
-unfolding opening openedState keepUnits admission handOver collecting collection scanReply meetsOut sumByte sumAt workAfter imageAfter accepting stepping
+unfolding openingBy opening openedState keepUnits admissionBy admission handOver collectionBy collection scanReplyBy scanReply meetsOut sumByte sumAt workAfter imageAfter accepting steppingBy stepping
 calls = tt
 
 unfoldable pub computed : Unit {0}

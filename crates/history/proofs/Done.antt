@@ -22,7 +22,7 @@ use Rattle.graph.specs.Steps.{Step, stepOf, masked}
 use Rattle.graph.specs.Sums.{sumsToRead}
 use Rattle.record.specs.Life.{isOpen, isFinished, isWrite, unitsOf, chosenAt, missingIn, stepped}
 use Rattle.record.specs.declared.Record.{Record}
-use Rattle.array.proofs.Passed.{Ready}
+use Rattle.array.proofs.Steppings.{Ready}
 use Rattle.array.proofs.Steps.{Standing, step-work-length, step-image-length, step-got-other, step-new-other, step-cell-other}
 use Rattle.array.specs.Stepping.{meetsOut, workAfter, imageAfter}
 use Rattle.stripe.proofs.Bytes.{bytes}

@@ -1,25 +1,28 @@
 -- Every call keeps the invariant, while the array is not lost, and so does a decay; and so it holds at the end of every such history.
 -- Assumes nothing.
-use Prim.Native.Nat.{ℕ, _<_}
+use Prim.Native.Nat.{ℕ}
 use mathlib.Core.Bool.{Bool, true, false, cond}
 use mathlib.Core.List.{List}
 use mathlib.Core.Logic.{_⊎_, inl, inr}
-use mathlib.Core.Path.{_≡_, refl, sym, ap, _∙_, subst}
+use mathlib.Core.Path.{_≡_, refl, sym, _∙_, subst}
 use native.Mathlib.Omega.{arith}
-use borrow.Author.Tests.{eqb-true, eqb-false, leb-false, ne-eqb}
-use lib.Dec.{eqb, leb}
+use borrow.Author.Tests.{eqb-true, eqb-false}
+use lib.Dec.{eqb}
 use lib.ListN.{getD, set}
 use lib.Seq.{getD-set-same}
 use Rattle.terms.proofs.Rows.{truth}
-use Rattle.geometry.specs.Limits.{none, beyondState, isLost}
-use Rattle.geometry.specs.Report.{reportRefusal, marked, withOut, withLost}
+use Rattle.geometry.specs.Limits.{none}
+use Rattle.geometry.specs.Report.{reportRefusal, marked}
 use Rattle.geometry.specs.declared.State.{State}
 use Rattle.graph.specs.Order.{complete, after}
 use Rattle.graph.specs.Steps.{stepOf}
 use Rattle.record.specs.Life.{free, isFinished, unitsOf, chosenAt, missingIn, stepped, afresh}
 use Rattle.record.specs.declared.Record.{Record}
-use Rattle.array.proofs.Passed.{Ready, passed, admit-passed, step-passed, collect-passed}
-use Rattle.array.specs.Stepping.{Stepping, accepting, meetsOut}
+use Rattle.array.proofs.Admissions.{admit-passed}
+use Rattle.array.proofs.Collections.{collect-passed}
+use Rattle.array.proofs.Reports.{report-passed}
+use Rattle.array.proofs.Steppings.{Ready, step-passed}
+use Rattle.array.specs.Stepping.{SteppingBy, accepting, meetsOut}
 use Rattle.history.specs.Account.{Account, Entry, withEntry, stepNoted, reported, entered, noted}
 use Rattle.history.specs.History.{History, opened, next, decayed, Whole}
 use Rattle.history.specs.World.{World, Event, admit, step, report, collect, scan, play, recordAt}
@@ -29,19 +32,11 @@ use Rattle.history.proofs.Collect.{collect-sure}
 use Rattle.history.proofs.Decay.{decay-sure}
 use Rattle.history.proofs.Done.{done-sure}
 use Rattle.history.proofs.Invariant.{Sure}
-use Rattle.history.proofs.Opened.{open-passed, open-sure}
+use Rattle.history.proofs.Opened.{open-sure}
 use Rattle.history.proofs.Replies.{admit-number, step-number, collect-number, report-number, admit-taken, step-taken, collect-taken, report-taken, refused-leaves}
 use Rattle.history.proofs.Report.{report-sure}
 use Rattle.history.proofs.Rows.{afterRow}
 use Rattle.history.proofs.Step.{afresh-sure}
-
--- an accepted report names a card
-report-below : (st : State) (c : ℕ) → reportRefusal st c ≡ 0 → c < st .cards
-unfolding reportRefusal
-report-below st c e =
-    let b = passed (beyondState st) 0 _ e in
-    let l = passed (isLost st) 3 _ (b .1) in
-    leb-false (st .cards) c (passed (leb (st .cards) c) 4 _ (l .1) .0)
 
 -- a record is finished after its last step, and not after a fresh choice
 finished-last : (st : State) (r : Record) (k : ℕ) → isFinished (stepped st r k) ≡ complete (unitsOf st) (r .graph) (r .mask) (chosenAt st r) (after (r .done) k)
@@ -67,13 +62,13 @@ module _ (w : World) (row : ℕ → List ℕ) (entry : ℕ → Entry) where
       abbrev r : Record
       r = recordAt w i
 
-      abbrev made : Stepping
-      made = accepting (w .state) (w .table) (w .work) (w .image) i r k
+      abbrev made : SteppingBy
+      made = accepting (w .state) (w .work) (w .image) i r k
 
       abbrev Kept : Type 0
       Kept =
-          Sure (record { state = w .state; table = made .table; work = made .work; image = made .image })
-          (stepNoted a i (isFinished (getD (made .table) i free)))
+          Sure (record { state = w .state; table = set (w .table) i (made .stands); work = made .work; image = made .image })
+          (stepNoted a i (isFinished (getD (set (w .table) i (made .stands)) i free)))
 
       -- the record after it
       put-there : (r′ : Record) → getD (set (w .table) i r′) i free ≡ r′
@@ -108,7 +103,7 @@ module _ (w : World) (row : ℕ → List ℕ) (entry : ℕ → Entry) where
         go : (eqb (w .state .out) none ≡ true) ⊎ (eqb (w .state .out) none ≡ false) → marked (w .state) c .lost ≡ 0
             → Sure (record { state = marked (w .state) c; table = w .table; work = w .work; image = w .image })
             (record { state = marked (w .state) c; row = row; entry = entry })
-        go (inl f) lost = unfold marked in rw f (report-sure w a sure c (eqb-true (w .state .out) none f) (report-below (w .state) c ok))
+        go (inl f) lost = unfold marked in rw f (report-sure w a sure c (eqb-true (w .state .out) none f) (report-passed (w .state) c ok .card-below))
         go (inr f) lost = let l : _≡_ {A = ℕ} 1 0 = unfold marked in (rw f at lost) in absurd (omega arith)
 
     -- an accepted call
@@ -151,6 +146,6 @@ event-kept w a same sure =
 
 -- the invariant at the end of a history
 pub history-sure : {w : World} {a : Account} → History play w a → Whole a → Sure w a
-history-sure (opened g out table work image ok) whole = open-sure g out table work image (open-passed g out table work image ok)
+history-sure (opened g out table work image ok) whole = open-sure g out table work image ok
 history-sure (next {w} {a} h e) whole = event-kept w a (state-kept h) (history-sure h (whole-call play w a e whole)) e whole
 history-sure (decayed {w} {a} h image d) whole = decay-sure w a (history-sure h whole) image (rw (state-kept h) d)

@@ -11,7 +11,7 @@ use Rattle.geometry.specs.Limits.{geometryOf}
 use Rattle.geometry.specs.declared.State.{State}
 use Rattle.record.specs.Life.{free, isFree, isOpen}
 use Rattle.record.specs.declared.Record.{Record}
-use Rattle.array.proofs.Passed.{Right}
+use Rattle.array.proofs.Lent.{Right}
 use Rattle.record.proofs.Clauses.{Fit, fit, open-not-free}
 use Rattle.history.proofs.Tables.{sound-elim}
 

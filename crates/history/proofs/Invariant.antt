@@ -15,7 +15,7 @@ use Rattle.record.specs.Sound.{held}
 use Rattle.record.specs.declared.Record.{Record}
 use Rattle.array.specs.Lent.{unitBytes}
 use Rattle.array.proofs.Frames.{newByte, gotByte}
-use Rattle.array.proofs.Passed.{Right}
+use Rattle.array.proofs.Lent.{Right}
 use Rattle.stripe.specs.Blocks.{Blocks}
 use Rattle.stripe.specs.Invariant.{Proper, Idle, Faithful}
 use Rattle.stripe.specs.Request.{Request}

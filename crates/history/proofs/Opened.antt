@@ -1,31 +1,28 @@
 -- An accepted opening leaves a sure world: every record is free, and every stripe rests on the row that is read off the image.
 -- Assumes nothing.
 use Prim.Native.Nat.{ℕ, _≤_, _<_}
-use mathlib.Core.Bool.{Bool, true, false, cond, not, _&&_, _||_}
-use mathlib.Core.List.{List, []}
+use mathlib.Core.Bool.{true, false}
+use mathlib.Core.List.{List}
 use mathlib.Core.Logic.{_⊎_, inl, inr}
 use mathlib.Core.Path.{_≡_, refl, sym, _∙_}
 use native.Mathlib.Omega.{arith}
-use borrow.Author.Tests.{eqb-true, eq-eqb, not-false}
-use lib.Dec.{eqb}
+use borrow.Author.Tests.{eq-eqb, not-false}
 use lib.ListN.{length, replicate, length-replicate, getD-replicate}
-use Rattle.terms.specs.Reply.{Reply, row, refused, refusedOr13}
-use Rattle.terms.proofs.Rows.{true≢false, or-false-left, or-false-right}
+use Rattle.terms.specs.Reply.{row}
+use Rattle.terms.proofs.Rows.{true≢false}
 use Rattle.geometry.proofs.Bounds.{Bounds, within-limits, within-limits-out}
-use Rattle.geometry.specs.Limits.{none, beyond}
+use Rattle.geometry.specs.Limits.{none}
 use Rattle.geometry.proofs.Turns.{missingAt-is}
 use Rattle.geometry.specs.Placement.{outIn, missingAt}
-use Rattle.geometry.specs.Store.{imageWrong, workWrong, imageSize, workSize}
 use Rattle.geometry.specs.declared.Geometry.{Geometry}
 use Rattle.geometry.specs.declared.State.{State}
-use Rattle.parity.specs.Parity.{parityByte, rightParity, disagreement}
+use Rattle.parity.specs.Parity.{parityByte}
 use Rattle.parity.specs.Scan.{nothingHeld}
 use Rattle.record.specs.Life.{free}
 use Rattle.record.specs.declared.Record.{Record}
-use Rattle.array.proofs.Passed.{passed, image-length, work-length, table-length}
-use Rattle.array.specs.Lent.{tableWrong}
+use Rattle.array.proofs.Openings.{Opens, openNumber, open-number, open-passed, open-accepted}
 use Rattle.array.specs.Opening.{opening}
-use Rattle.array.specs.Refusals.{opened, openRefusal}
+use Rattle.array.specs.Refusals.{opened}
 use Rattle.history.specs.Account.{Account, vacant}
 use Rattle.history.specs.History.{openedWorld, openedAccount}
 use Rattle.history.specs.Row.{openedRow}
@@ -38,49 +35,15 @@ use Rattle.record.proofs.Clauses.{free-sound}
 use Rattle.history.proofs.Tables.{sound-intro}
 
 module _ (g : Geometry) (out : ℕ) (table : List Record) (work image : List ℕ) where
-  -- what is answered is accepted exactly where nothing is refused
-  pub open-passed : opening g out table work image .reply .number ≡ 0 → openRefusal g out table work image ≡ 0
-  unfolding opening disagreement
-  open-passed = go (openRefusal g out table work image) (eqb (openRefusal g out table work image) 0) refl
-    where
-      wrong : Reply
-      wrong = disagreement (g .cards) (g .stripes) (g .block) image nothingHeld
-
-      ends : (number : ℕ) (t : Bool) → cond t wrong (refused number) .number ≡ 0 → number ≡ 0
-      ends number true e = absurd (omega arith)
-      ends number false e = e
-
-      go : (number : ℕ) (t : Bool) → eqb number 0 ≡ t
-          → cond t (record { number = 0; first = 0; second = 0 }) (refusedOr13 number wrong) .number ≡ 0 → number ≡ 0
-      go number true f e = eqb-true number 0 f
-      go number false f e = ends number (eqb number 13) e
-
-  module _ (ok : openRefusal g out table work image ≡ 0) where
+  module _ (ok : opening g out table work image .reply .number ≡ 0) where
     abbrev st : State
     st = opened g out
 
-    -- what the tests of opening tell
-    pub record Tests : Type 0 where
-      pub limits : beyond g out ≡ false
-      pub image-right : length image ≡ imageSize (st .cards) (st .stripes) (st .block)
-      pub table-right : length table ≡ st .records
-      pub work-right : length work ≡ workSize (st .cards) (st .block) (st .records)
-      pub parity : (eqb out none && not (rightParity (g .cards) (g .stripes) (g .block) image nothingHeld)) ≡ false
+    none-refused : openNumber g out table work image ≡ 0
+    none-refused = sym (open-number g out table work image) ∙ ok
 
-    tests : Tests
-    unfolding openRefusal
-    tests =
-        let a = passed (beyond g out) 0 _ ok in
-        let b = passed (imageWrong st image || tableWrong st table || workWrong st work) 1 _ (a .1) in
-        let c = passed (eqb out none && not (rightParity (g .cards) (g .stripes) (g .block) image nothingHeld)) 12 [] (b .1) in
-        let two = or-false-left (imageWrong st image || tableWrong st table) (workWrong st work) (b .0) in
-        record {
-          limits = a .0;
-          image-right = image-length st image (or-false-left (imageWrong st image) (tableWrong st table) two);
-          table-right = table-length st table (or-false-right (imageWrong st image) (tableWrong st table) two);
-          work-right = work-length st work (or-false-right (imageWrong st image || tableWrong st table) (workWrong st work) (b .0));
-          parity = c .0;
-        }
+    tests : Opens g out table work image
+    tests = open-passed g out table work image none-refused
 
     bounds : Bounds (g .cards) (g .stripes) (g .block) (g .records)
     bounds = within-limits g out (tests .limits)
@@ -129,9 +92,9 @@ module _ (g : Geometry) (out : ℕ) (table : List Record) (work image : List ℕ
         }
 
     pub open-sure : Sure (openedWorld g out table work image) (openedAccount g out image)
-    unfolding openedWorld openedAccount opening
-    open-sure = rw ok sure-start
+    unfolding openedWorld openedAccount
+    open-sure = rw (open-accepted g out table work image none-refused) sure-start
 
     pub open-state : openedWorld g out table work image .state ≡ opened g out
-    unfolding openedWorld opening
-    open-state = rw ok
+    unfolding openedWorld
+    open-state = rw (open-accepted g out table work image none-refused)

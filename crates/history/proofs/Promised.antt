@@ -22,12 +22,16 @@ use Rattle.record.proofs.Soundness.{sound-record, sound-ready}
 use Rattle.record.specs.Life.{free, isFree, isOpen, isFinished, unitsOf}
 use Rattle.record.specs.Sound.{allZero, legalMask, lacksNone, rightCount, soundRecord, held, lowestFree}
 use Rattle.record.specs.declared.Record.{Record}
-use Rattle.array.proofs.Granted.{Lently, admit-lent, step-lent, collect-lent, report-lent, scan-lent, step-granted, collect-granted}
-use Rattle.array.proofs.Passed.{admit-passed, step-passed, collect-passed}
+use Rattle.array.proofs.Admissions.{admit-lently, admit-passed}
+use Rattle.array.proofs.Collections.{collectNumber, collect-lently, collect-granted, collect-passed}
+use Rattle.array.proofs.Lent.{Lently}
+use Rattle.array.proofs.Reports.{report-lently}
+use Rattle.array.proofs.Scans.{scan-lently}
+use Rattle.array.proofs.Steppings.{step-lently, step-granted, step-passed}
 use Rattle.array.proofs.Rank.{rank-all}
 use Rattle.array.specs.Collection.{handOver}
 use Rattle.array.specs.Lent.{rank, unitBytes}
-use Rattle.array.specs.Refusals.{collectRefusal, resultShort, stepReady}
+use Rattle.array.specs.Refusals.{resultShort, stepReady}
 use Rattle.history.specs.Account.{Account, Entry}
 use Rattle.history.specs.Promise.{Vacant, Open, Finished, Idle, Agree, blocksRead, Promise}
 use Rattle.history.specs.World.{World, Event, admit, step, report, collect, scan, play, recordAt}
@@ -157,7 +161,7 @@ module _ (w : World) (row : ℕ → List ℕ) (entry : ℕ → Entry) where
         (tests .record-below, entry-phase i 1 (tests .record-below) (tests .is-open))
 
     module _ (i : ℕ) (result : List ℕ) (ok : play w (collect i result) .reply .number ≡ 0) where
-      none-refused : collectRefusal st (w .table) (w .work) i result ≡ 0
+      none-refused : collectNumber st (w .table) (w .work) i result ≡ 0
       none-refused = sym (collect-number w i result) ∙ ok
 
       collects-finished : Finished a i
@@ -206,11 +210,11 @@ module _ (w : World) (row : ℕ → List ℕ) (entry : ℕ → Entry) where
 
     lent-right : (e : Event) → Lently (play w e .reply .number)
     lent-right (admit write s mask payload) =
-        rw (admit-number w write s mask payload) (admit-lent st (w .table) (w .work) (w .image) (sure .right) write s mask payload)
-    lent-right (step i k) = rw (step-number w i k) (step-lent st (w .table) (w .work) (w .image) (sure .right) i k)
-    lent-right (report c) = rw (report-number w c) (report-lent st (w .table) (w .work) (w .image) (sure .right) c)
-    lent-right (collect i result) = rw (collect-number w i result) (collect-lent st (w .table) (w .work) (w .image) (sure .right) i result)
-    lent-right scan = rw (scan-number w) (scan-lent st (w .table) (w .work) (w .image) (sure .right))
+        rw (admit-number w write s mask payload) (admit-lently st (w .table) (w .work) (w .image) write s mask payload (sure .right))
+    lent-right (step i k) = rw (step-number w i k) (step-lently st (w .table) (w .work) (w .image) i k (sure .right))
+    lent-right (report c) = rw (report-number w c) (report-lently st c (sure .right .limits) (sure .right .whole))
+    lent-right (collect i result) = rw (collect-number w i result) (collect-lently st (w .table) (w .work) i result (w .image) (sure .right))
+    lent-right scan = rw (scan-number w) (scan-lently st (w .table) (w .image) (w .work) (sure .right))
 
     -- ---- an open record has a step
 
@@ -219,7 +223,7 @@ module _ (w : World) (row : ℕ → List ℕ) (entry : ℕ → Entry) where
     goes-on i o =
         let ready = sound-ready st (recordAt w i) (sound-record st (w .table) (sure .right .is-sound) i) (open-record i o) in (
           ready .0,
-          step-number w i (ready .0) ∙ step-granted st (w .table) (w .work) (w .image) (sure .right) i (ready .0) (o .0) (open-record i o) (ready .1),
+          step-number w i (ready .0) ∙ step-granted st (w .table) (w .work) (w .image) i (ready .0) (record { right = sure .right; record-below = o .0; is-open = open-record i o; is-ready = ready .1 }),
         )
 
     promised : Promise play w a
@@ -235,7 +239,7 @@ module _ (w : World) (row : ℕ → List ℕ) (entry : ℕ → Entry) where
           collects = collects;
           collectable = λ i result f room.
               collect-number w i result
-              ∙ collect-granted st (w .table) (w .work) (w .image) (sure .right) i result (f .0) (finished-record i f) (roomy i f result room);
+              ∙ collect-granted st (w .table) (w .work) i result (w .image) (sure .right) (record { record-below = f .0; is-finished = finished-record i f; room = roomy i f result room });
           units = λ L h idle. promised-unit w a sure L h (not-held _ idle);
           parity = λ s h idle. promised-parity w a sure s h (not-held s idle);
           inferred = λ L h idle. promised-inferred w a sure L h (not-held _ idle);

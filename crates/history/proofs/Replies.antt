@@ -2,86 +2,53 @@
 -- document 01 says, and a refused one leaves the world.
 -- Assumes nothing.
 use Prim.Native.Nat.{ℕ}
-use mathlib.Core.Bool.{Bool, true, false, cond}
+use mathlib.Core.Bool.{Bool, cond}
 use mathlib.Core.List.{List, []}
-use mathlib.Core.Path.{_≡_, refl, sym, _∙_}
-use borrow.Author.Tests.{eqb-true}
-use lib.Dec.{eqb}
+use mathlib.Core.Path.{_≡_, refl, _∙_}
 use lib.ListN.{set}
-use Rattle.terms.specs.Reply.{Reply, accepted, refused}
-use Rattle.geometry.specs.Report.{reporting, reportRefusal, marked}
-use Rattle.parity.specs.Parity.{disagreement}
-use Rattle.record.specs.Life.{free, isWrite, missingIn, unitsOf, admitted}
-use Rattle.record.specs.Sound.{held, lowestFree}
-use Rattle.array.proofs.Refused.{admit-refused, step-refused, collect-refused, report-refused}
-use Rattle.array.specs.Admission.{admission, keepUnits}
-use Rattle.array.specs.Collection.{collection, collecting, handOver}
-use Rattle.array.specs.Refusals.{admitRefusal, stepRefusal, collectRefusal, scanRefusal}
-use Rattle.array.specs.Scan.{scanReply}
-use Rattle.array.specs.Stepping.{Stepping, stepping, accepting, meetsOut}
-use Rattle.graph.specs.Steps.{stepOf}
+use Rattle.terms.specs.Reply.{accepted}
+use Rattle.geometry.specs.Report.{reportRefusal, marked}
+use Rattle.record.specs.Life.{free, isWrite, admitted}
+use Rattle.record.specs.Sound.{lowestFree}
+use Rattle.array.proofs.Admissions as admissions
+use Rattle.array.proofs.Admissions.{admitNumber}
+use Rattle.array.proofs.Collections as collections
+use Rattle.array.proofs.Collections.{collectNumber}
+use Rattle.array.proofs.Reports as reports
+use Rattle.array.proofs.Scans as scans
+use Rattle.array.proofs.Scans.{scanNumber}
+use Rattle.array.proofs.Steppings as steppings
+use Rattle.array.proofs.Steppings.{stepNumber}
+use Rattle.array.specs.Admission.{keepUnits}
+use Rattle.array.specs.Collection.{handOver}
+use Rattle.array.specs.Stepping.{accepting}
 use Rattle.history.specs.World.{World, Event, admit, step, report, collect, scan, play, recordAt}
-
--- accepted with some values, or refused by the number
-either : (number : ℕ) (yes-reply : Reply) (t : Bool) → eqb number 0 ≡ t → yes-reply .number ≡ 0 → cond t yes-reply (refused number) .number ≡ number
-either number y true e z = rw z (sym (eqb-true number 0 e))
-either number y false e z = refl
 
 module _ (w : World) where
   pub admit-number : (write : Bool) (s mask : ℕ) (payload : List ℕ)
-      → play w (admit write s mask payload) .reply .number ≡ admitRefusal (w .state) (w .table) (w .work) (w .image) write s mask payload
-  unfolding play admission
-  admit-number write s mask payload = either _ _ (eqb (admitRefusal (w .state) (w .table) (w .work) (w .image) write s mask payload) 0) refl refl
+      → play w (admit write s mask payload) .reply .number ≡ admitNumber (w .state) (w .table) (w .work) (w .image) write s mask payload
+  unfolding play
+  admit-number write s mask payload = admissions.admit-number (w .state) (w .table) (w .work) (w .image) write s mask payload
 
-  pub collect-number : (i : ℕ) (result : List ℕ) → play w (collect i result) .reply .number ≡ collectRefusal (w .state) (w .table) (w .work) i result
-  unfolding play collection collecting
-  collect-number i result = either _ _ (eqb (collectRefusal (w .state) (w .table) (w .work) i result) 0) refl refl
+  pub step-number : (i k : ℕ) → play w (step i k) .reply .number ≡ stepNumber (w .state) (w .table) (w .work) (w .image) i k
+  unfolding play
+  step-number i k = steppings.step-number (w .state) (w .table) (w .work) (w .image) i k
 
   pub report-number : (c : ℕ) → play w (report c) .reply .number ≡ reportRefusal (w .state) c
-  unfolding play reporting
-  report-number c = either _ _ (eqb (reportRefusal (w .state) c) 0) refl refl
+  unfolding play
+  report-number c = reports.report-number (w .state) c
 
-  -- an accepted step answers 0, done or chosen afresh
-  accepting-number : (i k : ℕ) → accepting (w .state) (w .table) (w .work) (w .image) i (recordAt w i) k .reply .number ≡ 0
-  unfolding accepting
-  accepting-number i k = go (meetsOut (missingIn (w .state) (recordAt w i .stripe)) (stepOf (unitsOf (w .state)) k)) _ _ refl refl
-    where
-      go : (m : Bool) (a b : Stepping) → a .reply .number ≡ 0 → b .reply .number ≡ 0 → cond m a b .reply .number ≡ 0
-      go true a b p q = p
-      go false a b p q = q
+  pub collect-number : (i : ℕ) (result : List ℕ) → play w (collect i result) .reply .number ≡ collectNumber (w .state) (w .table) (w .work) i result
+  unfolding play
+  collect-number i result = collections.collect-number (w .state) (w .table) (w .work) i result
 
-  pub step-number : (i k : ℕ) → play w (step i k) .reply .number ≡ stepRefusal (w .state) (w .table) (w .work) (w .image) i k
-  unfolding play stepping
-  step-number i k = go (eqb number 0) refl
-    where
-      number : ℕ
-      number = stepRefusal (w .state) (w .table) (w .work) (w .image) i k
-
-      go : (t : Bool) → eqb number 0 ≡ t
-          → cond t (accepting (w .state) (w .table) (w .work) (w .image) i (recordAt w i) k)
-          (record { reply = refused number; table = w .table; work = w .work; image = w .image }) .reply .number ≡ number
-      go true e = accepting-number i k ∙ sym (eqb-true number 0 e)
-      go false e = refl
-
-  pub scan-number : play w scan .reply .number ≡ scanRefusal (w .state) (w .table) (w .image)
-  unfolding play scanReply disagreement
-  scan-number = go (eqb number 0) refl (eqb number 13) refl
-    where
-      number : ℕ
-      number = scanRefusal (w .state) (w .table) (w .image)
-
-      wrong : Reply
-      wrong = disagreement (w .state .cards) (w .state .stripes) (w .state .block) (w .image) (held (w .table))
-
-      go : (t : Bool) → eqb number 0 ≡ t → (u : Bool) → eqb number 13 ≡ u
-          → cond t (record { number = 0; first = 0; second = 0 }) (cond u wrong (refused number)) .number ≡ number
-      go true e u f = sym (eqb-true number 0 e)
-      go false e true f = sym (eqb-true number 13 f)
-      go false e false f = refl
+  pub scan-number : play w scan .reply .number ≡ scanNumber (w .state) (w .table) (w .image)
+  unfolding play
+  scan-number = scans.scan-number (w .state) (w .table) (w .image)
 
   -- ---- an accepted call
 
-  pub admit-taken : (write : Bool) (s mask : ℕ) (payload : List ℕ) → admitRefusal (w .state) (w .table) (w .work) (w .image) write s mask payload ≡ 0
+  pub admit-taken : (write : Bool) (s mask : ℕ) (payload : List ℕ) → admitNumber (w .state) (w .table) (w .work) (w .image) write s mask payload ≡ 0
       → play w (admit write s mask payload)
       ≡ record {
         reply = accepted (lowestFree (w .table)) 0;
@@ -93,18 +60,18 @@ module _ (w : World) where
         };
         result = [];
       }
-  unfolding play admission
-  admit-taken write s mask payload e = rw e
+  unfolding play
+  admit-taken write s mask payload e = rw (admissions.admit-accepted (w .state) (w .table) (w .work) (w .image) write s mask payload e)
 
-  pub step-taken : (i k : ℕ) → stepRefusal (w .state) (w .table) (w .work) (w .image) i k ≡ 0
+  pub step-taken : (i k : ℕ) → stepNumber (w .state) (w .table) (w .work) (w .image) i k ≡ 0
       → play w (step i k)
-      ≡ (let a = accepting (w .state) (w .table) (w .work) (w .image) i (recordAt w i) k in record {
+      ≡ (let a = accepting (w .state) (w .work) (w .image) i (recordAt w i) k in record {
         reply = a .reply;
-        world = record { state = w .state; table = a .table; work = a .work; image = a .image };
+        world = record { state = w .state; table = set (w .table) i (a .stands); work = a .work; image = a .image };
         result = [];
       })
-  unfolding play stepping
-  step-taken i k e = rw e
+  unfolding play
+  step-taken i k e = rw (steppings.step-accepted (w .state) (w .table) (w .work) (w .image) i k e)
 
   pub report-taken : (c : ℕ) → reportRefusal (w .state) c ≡ 0
       → play w (report c)
@@ -113,27 +80,27 @@ module _ (w : World) where
         world = record { state = marked (w .state) c; table = w .table; work = w .work; image = w .image };
         result = [];
       }
-  unfolding play reporting
-  report-taken c e = rw e
+  unfolding play
+  report-taken c e = rw (reports.report-accepted (w .state) c e)
 
-  pub collect-taken : (i : ℕ) (result : List ℕ) → collectRefusal (w .state) (w .table) (w .work) i result ≡ 0
+  pub collect-taken : (i : ℕ) (result : List ℕ) → collectNumber (w .state) (w .table) (w .work) i result ≡ 0
       → play w (collect i result)
       ≡ record {
         reply = accepted (recordAt w i .count) 0;
         world = record { state = w .state; table = set (w .table) i free; work = w .work; image = w .image };
         result = cond (isWrite (recordAt w i)) result (handOver (w .state) i (recordAt w i .mask) (w .work) result);
       }
-  unfolding play collection collecting
-  collect-taken i result e = rw e
+  unfolding play
+  collect-taken i result e = rw (collections.collect-accepted (w .state) (w .table) (w .work) i result e)
 
   -- ---- a refused call
 
   pub refused-leaves : (e : Event) → ¬ (play w e .reply .number ≡ 0) → play w e .world ≡ w
   unfolding play
   refused-leaves (admit write s mask payload) d =
-      rw (admit-refused (w .state) (w .table) (w .work) (w .image) write s mask payload (λ z. d (admit-number write s mask payload ∙ z)))
-  refused-leaves (step i k) d = rw (step-refused (w .state) (w .table) (w .work) (w .image) i k (λ z. d (step-number i k ∙ z)))
-  refused-leaves (report c) d = rw (report-refused (w .state) c (λ z. d (report-number c ∙ z)))
+      rw (admissions.admit-refused (w .state) (w .table) (w .work) (w .image) write s mask payload (λ z. d (admit-number write s mask payload ∙ z)))
+  refused-leaves (step i k) d = rw (steppings.step-refused (w .state) (w .table) (w .work) (w .image) i k (λ z. d (step-number i k ∙ z)))
+  refused-leaves (report c) d = rw (reports.report-refused (w .state) c (λ z. d (report-number c ∙ z)))
   refused-leaves (collect i result) d =
-      rw (collect-refused (w .state) (w .table) (w .work) (w .image) i result (λ z. d (collect-number i result ∙ z)))
+      rw (collections.collect-refused (w .state) (w .table) (w .work) i result (λ z. d (collect-number i result ∙ z)))
   refused-leaves scan d = refl

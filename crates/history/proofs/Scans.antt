@@ -7,7 +7,7 @@ use mathlib.Core.Path.{_≡_, refl, ap}
 use native.Mathlib.Omega.{arith}
 use borrow.Author.Tests.{eqb-true, eqb-false, not-true, not-false}
 use lib.Dec.{eqb, ltb}
-use lib.ListN.{length, replicate}
+use lib.ListN.{length}
 use Rattle.terms.specs.Reply.{Reply, row, firstRow, accepted, refusedOr13, onAccept}
 use Rattle.terms.proofs.Rows.{and-left, and-right}
 use Rattle.terms.proofs.Sets.{lowest-le}
@@ -19,13 +19,13 @@ use Rattle.geometry.specs.declared.Geometry.{Geometry}
 use Rattle.geometry.specs.declared.State.{State}
 use Rattle.parity.specs.Parity.{wrongByte, wrongStripe, rightParity, disagreement}
 use Rattle.parity.specs.Scan.{nothingHeld}
-use Rattle.record.specs.Life.{free}
-use Rattle.record.specs.Sound.{sound, held}
+use Rattle.record.specs.Survey.{surveyOf, heldIn}
 use Rattle.record.specs.declared.Record.{Record}
-use Rattle.array.specs.Lent.{tableWrong}
-use Rattle.array.specs.Opening.{Opening, opening, zeroState}
-use Rattle.array.specs.Refusals.{opened, openRefusal, scanRefusal}
-use Rattle.array.specs.Scan.{scanReply}
+use Rattle.record.specs.declared.Survey.{Survey}
+use Rattle.array.specs.Lent.{tableWrong, lentRows}
+use Rattle.array.specs.Opening.{OpeningBy, openingBy, opening, zeroState}
+use Rattle.array.specs.Refusals.{opened, openRefusal, scanRows, scanRefusal}
+use Rattle.array.specs.Scan.{scanReplyBy, scanReply}
 use Rattle.history.specs.History.{Decayed}
 use Rattle.history.proofs.Unseen.{wrong-same, right-same, disagreement-same}
 
@@ -91,28 +91,31 @@ module _ (st : State) (image image′ : List ℕ) (same : Decayed st image image
   none-out limits out s h = omega (arith, within-limits (geometryOf st) (st .out) limits .cards-high)
 
   module _ (table : List Record) where
-    scan-number-same : scanRefusal st table image′ ≡ scanRefusal st table image
-    unfolding scanRefusal
+    abbrev v : Survey
+    v = surveyOf st table
+
+    scan-number-same : scanRefusal st v image′ ≡ scanRefusal st v image
+    unfolding scanRefusal lentRows scanRows
     scan-number-same =
         rw (wrong-same st image image′ same)
-        (scan-row (imageWrong st image || tableWrong st table) (not (sound st table)) (isLost st) (beyondState st) (not (eqb (st .out) none)) _ _
-        (λ l o. ap not (right-same st image image′ same (none-out l (eqb-true (st .out) none (not-false _ o))) (held table))))
+        (scan-row (imageWrong st image || tableWrong st (v .len)) (not (v .sound)) (isLost st) (beyondState st) (not (eqb (st .out) none)) _ _
+        (λ l o. ap not (right-same st image image′ same (none-out l (eqb-true (st .out) none (not-false _ o))) (heldIn v))))
 
     pub scan-same : scanReply st table image′ ≡ scanReply st table image
-    unfolding scanReply
+    unfolding scanReply scanReplyBy
     scan-same =
         rw scan-number-same
-        (reply-same (scanRefusal st table image) _ _
+        (reply-same (scanRefusal st v image) _ _
         (λ e.
-        let hit = last (eqb-true (scanRefusal st table image) 13 e) in
-        disagreement-same st image image′ same (none-out (hit .0) (eqb-true (st .out) none (not-false _ (hit .1)))) (held table)
-        (some-wrong (st .cards) (st .stripes) (st .block) image (held table) (not-true _ (hit .2)))))
+        let hit = last (eqb-true (scanRefusal st v image) 13 e) in
+        disagreement-same st image image′ same (none-out (hit .0) (eqb-true (st .out) none (not-false _ (hit .1)))) (heldIn v)
+        (some-wrong (st .cards) (st .stripes) (st .block) image (heldIn v) (not-true _ (hit .2)))))
       where
-        last : scanRefusal st table image ≡ 13
-            → (beyondState st ≡ false) × (not (eqb (st .out) none) ≡ false) × (not (rightParity (st .cards) (st .stripes) (st .block) image (held table)) ≡ true)
+        last : scanRefusal st v image ≡ 13
+            → (beyondState st ≡ false) × (not (eqb (st .out) none) ≡ false) × (not (rightParity (st .cards) (st .stripes) (st .block) image (heldIn v)) ≡ true)
         last e =
-            scan-hit (imageWrong st image || tableWrong st table) (not (sound st table)) (isLost st) (beyondState st) (not (eqb (st .out) none))
-            (not (rightParity (st .cards) (st .stripes) (st .block) image (held table))) (unfold scanRefusal in e)
+            scan-hit (imageWrong st image || tableWrong st (v .len)) (not (v .sound)) (isLost st) (beyondState st) (not (eqb (st .out) none))
+            (not (rightParity (st .cards) (st .stripes) (st .block) image (heldIn v))) (unfold scanRefusal lentRows scanRows in e)
 
 -- ---- open
 
@@ -126,11 +129,11 @@ module _ (g : Geometry) (out : ℕ) (table : List Record) (work image image′ :
   unfolding opened
   right-open limits o = right-same (opened g out) image image′ same (none-open limits o) nothingHeld
 
-  open-number-same : openRefusal g out table work image′ ≡ openRefusal g out table work image
+  open-number-same : openRefusal g out (length table) work image′ ≡ openRefusal g out (length table) work image
   unfolding openRefusal
   open-number-same =
       rw (wrong-same (opened g out) image image′ same)
-      (open-row (beyond g out) (imageWrong (opened g out) image || tableWrong (opened g out) table || workWrong (opened g out) work) _ _
+      (open-row (beyond g out) (imageWrong (opened g out) image || tableWrong (opened g out) (length table) || workWrong (opened g out) work) _ _
       (λ l. go l (eqb out none) refl))
     where
       go : beyond g out ≡ false → (t : Bool) → eqb out none ≡ t
@@ -138,24 +141,25 @@ module _ (g : Geometry) (out : ℕ) (table : List Record) (work image image′ :
       go l true e = ap not (right-open l (eqb-true out none e))
       go l false e = refl
 
-  place-same : openRefusal g out table work image ≡ 13
+  place-same : openRefusal g out (length table) work image ≡ 13
       → disagreement (g .cards) (g .stripes) (g .block) image′ nothingHeld ≡ disagreement (g .cards) (g .stripes) (g .block) image nothingHeld
   unfolding openRefusal opened
   place-same e =
-      let hit = open-hit (beyond g out) (imageWrong (opened g out) image || tableWrong (opened g out) table || workWrong (opened g out) work)
+      let hit = open-hit (beyond g out) (imageWrong (opened g out) image || tableWrong (opened g out) (length table) || workWrong (opened g out) work)
       (eqb out none && not (rightParity (g .cards) (g .stripes) (g .block) image nothingHeld)) e in
       let o = and-left (eqb out none) (not (rightParity (g .cards) (g .stripes) (g .block) image nothingHeld)) (hit .1) in
       let wrong = and-right (eqb out none) (not (rightParity (g .cards) (g .stripes) (g .block) image nothingHeld)) (hit .1) in
       disagreement-same (opened g out) image image′ same (none-open (hit .0) (eqb-true out none o)) nothingHeld
       (some-wrong (g .cards) (g .stripes) (g .block) image nothingHeld (not-true _ wrong))
 
+  open-by-same : openingBy g out (length table) work image′ ≡ openingBy g out (length table) work image
+  unfolding openingBy
+  open-by-same =
+      rw open-number-same
+      (ap {B = OpeningBy} (λ (r : Reply). record { reply = r; state = onAccept (openRefusal g out (length table) work image) (opened g out) zeroState })
+      (reply-same (openRefusal g out (length table) work image) _ _
+      (λ e. place-same (eqb-true (openRefusal g out (length table) work image) 13 e))))
+
   pub open-same : opening g out table work image′ ≡ opening g out table work image
   unfolding opening
-  open-same =
-      rw open-number-same
-      (ap {B = Opening} (λ (r : Reply). record {
-        reply = r;
-        state = onAccept (openRefusal g out table work image) (opened g out) zeroState;
-        table = onAccept (openRefusal g out table work image) (replicate (length table) free) table;
-      })
-      (reply-same (openRefusal g out table work image) _ _ (λ e. place-same (eqb-true (openRefusal g out table work image) 13 e))))
+  open-same = rw open-by-same

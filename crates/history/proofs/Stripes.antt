@@ -24,8 +24,7 @@ use Rattle.geometry.specs.declared.State.{State}
 use Rattle.parity.specs.Parity.{parityByte}
 use Rattle.record.specs.Life.{unitsOf}
 use Rattle.record.specs.Sound.{held}
-use Rattle.array.proofs.Granted.{scan-granted}
-use Rattle.array.specs.Scan.{scanReply}
+use Rattle.array.proofs.Scans.{scan-granted}
 use Rattle.stripe.proofs.Bytes.{sum-xor}
 use Rattle.stripe.specs.Invariant.{IsRow}
 use Rattle.history.specs.Account.{Account}
@@ -145,7 +144,7 @@ module _ (w : World) (a : Account) (sure : Sure w a) where
   promised-parity s hs idle works = parity-block s hs idle works
 
   pub promised-scan : st .out ≡ none → play w scan .reply ≡ accepted 0 0
-  unfolding play scanReply
+  unfolding play
   promised-scan out =
-      rw (scan-granted st (w .table) (w .work) (w .image) (sure .right) out
-      (right-intro N (st .stripes) (st .block) (w .image) (held (w .table)) (λ s b hs hb idle. parity-right s hs idle out b hb)))
+      scan-granted st (w .table) (w .image) (w .work) (sure .right) out
+      (right-intro N (st .stripes) (st .block) (w .image) (held (w .table)) (λ s b hs hb idle. parity-right s hs idle out b hb))

@@ -12,6 +12,8 @@ use Rattle.geometry.specs.Store.{imageWrong, imageSize}
 use Rattle.geometry.specs.declared.State.{State}
 use Rattle.parity.specs.Parity.{byteAt, parityByte, wrongByte, wrongStripe, rightParity, disagreement}
 use Rattle.record.specs.declared.Record.{Record}
+use Rattle.array.proofs.Admissions.{admitNumber}
+use Rattle.array.proofs.Steppings.{stepNumber}
 use Rattle.array.specs.Refusals.{admitRefusal, stepRefusal}
 use Rattle.history.specs.History.{Decayed}
 
@@ -23,11 +25,11 @@ module _ (st : State) (image image′ : List ℕ) (same : Decayed st image image
   wrong-same = ap (λ (k : ℕ). not (eqb k (imageSize (st .cards) (st .stripes) (st .block)))) (same .same-length)
 
   pub admit-same : (table : List Record) (work : List ℕ) (write : Bool) (s mask : ℕ) (payload : List ℕ)
-      → admitRefusal st table work image′ write s mask payload ≡ admitRefusal st table work image write s mask payload
+      → admitNumber st table work image′ write s mask payload ≡ admitNumber st table work image write s mask payload
   unfolding admitRefusal
   admit-same table work write s mask payload = rw wrong-same
 
-  pub step-same : (table : List Record) (work : List ℕ) (i k : ℕ) → stepRefusal st table work image′ i k ≡ stepRefusal st table work image i k
+  pub step-same : (table : List Record) (work : List ℕ) (i k : ℕ) → stepNumber st table work image′ i k ≡ stepNumber st table work image i k
   unfolding stepRefusal
   step-same table work i k = rw wrong-same
 
