@@ -1,5 +1,6 @@
 -- The laws of placement and of where blocks stand.
 pub mod Places
+pub mod Placing
 pub mod Turns
 pub mod Answered
 pub mod Inverse

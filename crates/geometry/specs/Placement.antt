@@ -34,6 +34,13 @@ cardOf N L = cardAt N (stripeOf N L) (unitOf N L)
 abbrev pub blockOf : ℕ → ℕ → ℕ → ℕ
 blockOf N s i = (N - 1) * s + i
 
+-- in an array of this state: the card of position j of stripe s, and the position of card c
+abbrev pub cardOfPosition : State → ℕ → ℕ → ℕ
+cardOfPosition st = cardAt (st .cards)
+
+abbrev pub positionOfCard : State → ℕ → ℕ → ℕ
+positionOfCard st = positionOf (st .cards)
+
 -- the card that is missing in a stripe, or 255: the card that is out
 unfoldable pub outIn : State → ℕ → ℕ
 outIn st s = st .out

@@ -13,7 +13,7 @@ use Rattle.terms.specs.Reply.{Reply, row, refused, refusedOr13}
 use Rattle.terms.proofs.Rows.{true≢false, or-false-left, or-false-right}
 use Rattle.geometry.proofs.Bounds.{Bounds, within-limits, within-limits-out}
 use Rattle.geometry.specs.Limits.{none, beyond}
-use Rattle.geometry.proofs.Turns.{missingAt-is}
+use Rattle.geometry.proofs.Placing.{missingAt-is}
 use Rattle.geometry.specs.Placement.{outIn, missingAt}
 use Rattle.geometry.specs.Store.{imageWrong, workWrong, imageSize, workSize}
 use Rattle.geometry.specs.declared.Geometry.{Geometry}

@@ -7,7 +7,7 @@ use native.Mathlib.Nat.{mul-add-div, mul-add-mod-self-left, div-eq-of-lt, mod-eq
 use native.Mathlib.Omega.{arith}
 use borrow.Author.Tests.{ltb-true, ltb-false}
 use lib.Dec.{ltb}
-use Rattle.geometry.proofs.Turns.{missingAt-is, missingAt-none}
+use Rattle.geometry.proofs.Placing.{missingAt-is, missingAt-none}
 use Rattle.geometry.specs.Placement.{cardAt, positionOf, missingAt, stripeOf, unitOf, blockOf}
 use Rattle.geometry.specs.Placing.{Placing}
 

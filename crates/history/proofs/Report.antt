@@ -10,7 +10,7 @@ use lib.Dec.{eqb, ltb}
 use Rattle.terms.proofs.Rows.{and-left, and-both, or-cases}
 use Rattle.geometry.proofs.Bounds.{Bounds}
 use Rattle.geometry.specs.Limits.{none, legal, legalOut, beyond, beyondState}
-use Rattle.geometry.proofs.Turns.{missingAt-none}
+use Rattle.geometry.proofs.Placing.{missingAt-none}
 use Rattle.geometry.specs.Placement.{outIn}
 use Rattle.geometry.specs.Report.{withOut}
 use Rattle.geometry.specs.declared.State.{State}
