@@ -20,6 +20,7 @@ pub mod Admit
 pub mod View
 pub mod Step
 pub mod Done
+pub mod Carried
 pub mod Report
 pub mod Collect
 pub mod Decay
