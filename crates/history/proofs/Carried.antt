@@ -32,9 +32,9 @@ use Rattle.stripe.specs.Blocks.{Blocks}
 use Rattle.stripe.specs.Invariant.{Proper, Idle, Faithful}
 use Rattle.stripe.specs.Request.{Request}
 use Rattle.history.specs.Account.{Account, Entry}
-use Rattle.history.specs.Promise.{recordAt, blocksRead}
+use Rattle.history.specs.Promise.{blocksRead}
 use Rattle.history.specs.Row.{writtenRow, unitIn}
-use Rattle.history.specs.World.{World}
+use Rattle.history.specs.World.{World, recordAt}
 use Rattle.history.proofs.Facts.{bounds, open-fits}
 use Rattle.history.proofs.Invariant.{Matches, Working, Sure, Resting, cellsOf}
 use Rattle.history.proofs.Rows.{rowOf, afterRow}
@@ -171,10 +171,7 @@ module _ (w : World) (a : Account) (sure : Sure w a) where
     unfolding unitBytes
     matches-now r e m =
         record {
-          same-kind = m .same-kind;
-          same-stripe = m .same-stripe;
-          same-mask = m .same-mask;
-          same-count = m .same-count;
+          agree = m .agree;
           paid = m .paid;
           nothing-due = m .nothing-due;
         }
@@ -224,7 +221,7 @@ module _ (w : World) (a : Account) (sure : Sure w a) where
             whole = carried .whole;
           };
           row-size = sure .row-size;
-          entries = λ i h f. matches-now (recordAt w i) (a .entry i) (sure .entries i h f);
+          entries = λ i h. matches-now (recordAt w i) (a .entry i) (sure .entries i h);
           resting = rests-now;
           working = works-now;
           read = sure .read;
