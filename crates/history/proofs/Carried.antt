@@ -1,26 +1,25 @@
 -- What may happen to the state and the image while the table and the work store stay. The geometry is the same; and each stripe is carried on: its
 -- missing card stays or was none, and the positions that are not missing now hold what they held; or no open request holds it, and it rests on the
 -- row as the state and the image now are. Then the world stays sure.
--- So go a report, by which a card goes missing, and a stripe whose missing block is filled by the exclusive or of the rest, its mirror.
+-- So go a report (Report), decay of what is missing (Decay), and a stripe whose missing block is put right (PutRight).
 -- Assumes nothing.
 use Prim.Native.Nat.{ℕ, _≤_, _<_}
 use mathlib.Core.Bool.{Bool, true, false, _||_}
 use mathlib.Core.List.{List}
 use mathlib.Core.Logic.{_⊎_, inl, inr}
 use mathlib.Core.Path.{_≡_, refl, sym, ap, subst, _∙_}
-use native.Mathlib.Decide.{ℕ-discrete}
 use native.Mathlib.Omega.{arith}
 use borrow.Author.Tests.{eqb-true, eq-eqb}
 use lib.Dec.{eqb}
 use lib.ListN.{length}
-use Rattle.terms.specs.Lists.{put}
 use Rattle.terms.proofs.Rows.{or-cases}
 use Rattle.geometry.proofs.Bounds.{Bounds}
 use Rattle.geometry.proofs.Placing.{missingAt-none}
 use Rattle.geometry.specs.Limits.{none, geometryOf, beyondState}
-use Rattle.geometry.specs.Placement.{outIn}
+use Rattle.geometry.specs.Placement.{cardAt, outIn}
 use Rattle.geometry.specs.declared.Geometry.{Geometry}
 use Rattle.geometry.specs.declared.State.{State}
+use Rattle.parity.specs.Parity.{byteAt}
 use Rattle.record.proofs.Clauses.{Fit, fit, fit-sound}
 use Rattle.record.specs.Life.{isFree, isOpen, unitsOf, missingIn}
 use Rattle.record.specs.Sound.{soundRecord, legalChosen, rightGraph, rightSteps, rightCount, lacksNone, held}
@@ -208,9 +207,10 @@ module _ (w : World) (a : Account) (sure : Sure w a) where
             (sure .resting s h free-now b hb)
         go (inr g) = g .rests
 
-    sure-now : Sure (record { state = st′; table = w .table; work = w .work; image = image }) a
+    sure-now : (book : State)
+        → Sure (record { state = st′; table = w .table; work = w .work; image = image }) (record { state = book; row = a .row; entry = a .entry })
     unfolding blocksRead
-    sure-now =
+    sure-now book =
         record {
           right = record {
             limits = carried .within;
@@ -227,11 +227,34 @@ module _ (w : World) (a : Account) (sure : Sure w a) where
           read = sure .read;
         }
 
-  -- of any state of the same geometry
-  pub carried-sure : (st : State) (image : List ℕ) → Carried w a st image
-      → Sure (record { state = st; table = w .table; work = w .work; image = image }) a
+  -- of any state of the same geometry, whatever state the account notes
+  pub carried-sure : (st : State) (image : List ℕ) → Carried w a st image → (book : State)
+      → Sure (record { state = st; table = w .table; work = w .work; image = image }) (record { state = book; row = a .row; entry = a .entry })
   carried-sure st image carried =
       subst
-      (λ (g : Geometry). Carried w a (marks g (st .out) (st .lost)) image
-      → Sure (record { state = marks g (st .out) (st .lost); table = w .table; work = w .work; image = image }) a)
+      (λ (g : Geometry). Carried w a (marks g (st .out) (st .lost)) image → (book : State)
+      → Sure (record { state = marks g (st .out) (st .lost); table = w .table; work = w .work; image = image }) (record { state = book; row = a .row; entry = a .entry }))
       (sym (carried .same-geometry)) (sure-now (st .out) (st .lost) image) carried
+
+-- ---- the state alone changes: the geometry is the same, and in each stripe the missing card stays or was none
+
+pub record Onward (st st′ : State) : Type 0 where
+  pub same-geometry : geometryOf st′ ≡ geometryOf st
+  pub stays : (s : ℕ) → s < st .stripes → (outIn st′ s ≡ outIn st s) ⊎ (outIn st s ≡ none)
+
+-- the bytes of the positions are the same where the geometry is
+pub same-cells : (st st′ : State) → geometryOf st′ ≡ geometryOf st → (image : List ℕ) (s b p : ℕ) → cellsOf st′ image s b p ≡ cellsOf st image s b p
+same-cells st st′ same image s b p = ap (λ (g : Geometry). byteAt (g .stripes) (g .block) image (cardAt (g .cards) s p) s b) same
+
+pub onward-sure : (w : World) (a : Account) → Sure w a → (st : State) → Onward (w .state) st → beyondState st ≡ false → st .lost ≡ 0 → (book : State)
+    → Sure (record { state = st; table = w .table; work = w .work; image = w .image }) (record { state = book; row = a .row; entry = a .entry })
+onward-sure w a sure st on within whole =
+    carried-sure w a sure st (w .image)
+    (record {
+      same-geometry = on .same-geometry;
+      same-length = refl;
+      within = within;
+      whole = whole;
+      each = λ s h.
+          inl (record { stays = on .stays s h; same-cells = λ b p hb l d. same-cells (w .state) st (on .same-geometry) (w .image) s b p });
+    })
