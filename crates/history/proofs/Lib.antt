@@ -22,6 +22,7 @@ pub mod Step
 pub mod Done
 pub mod Carried
 pub mod Report
+pub mod PutRight
 pub mod Collect
 pub mod Decay
 pub mod Replies
