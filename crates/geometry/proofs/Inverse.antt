@@ -13,7 +13,7 @@ use Rattle.geometry.specs.Answers.{beyondPlaces, placeReply, blockAtRepl
 use Rattle.geometry.specs.Placement.{stripeOf, unitOf, cardOf, blockOf, positionOf}
 use Rattle.geometry.proofs.Answered.{places-bounds, blocks-few, place-beyond, place-range, place-found, block-at-beyond, block-at-no-card, block-at-no-stripe, block-at-parity, block-at-found}
 use Rattle.geometry.proofs.Grid.{grid-inside, grid-row, grid-column}
-use Rattle.geometry.proofs.Places.{cardAt-below, positionOf-below, positionOf-cardAt, cardAt-positionOf}
+use Rattle.geometry.proofs.Placing.{placed}
 
 -- a refusal by another number than 0 is no acceptance
 not-both : {r : Reply} {k v w : ℕ} {X : Type 0} → ¬ (k ≡ 0) → r ≡ refused k → r ≡ accepted v w → X
@@ -78,9 +78,9 @@ module _ (N S : ℕ) where
       let small : unitOf N L < N = omega arith in
       let cards : 0 < N = omega arith in
       let stripe : stripeOf N L < S = div-lt-iff-lt-mul some .1 (omega (arith, f .below)) in
-      let position = positionOf-cardAt N cards (stripeOf N L) (unitOf N L) small in
+      let position = placed N cards .position-card (stripeOf N L) (unitOf N L) small in
       rw (← ap (λ (r : Reply). r .first) q, ← ap (λ (r : Reply). r .second) q)
-      (block-at-found N S (cardOf N L) (stripeOf N L) (f .within) (cardAt-below N cards (stripeOf N L) (unitOf N L)) stripe (λ p. let z = sym position ∙ p in omega arith)
+      (block-at-found N S (cardOf N L) (stripeOf N L) (f .within) (placed N cards .card-below (stripeOf N L) (unitOf N L)) stripe (λ p. let z = sym position ∙ p in omega arith)
       ∙ ap (accepted 0) (ap (blockOf N (stripeOf N L)) position ∙ div-add-mod L (N - 1)))
 
   -- and the block that a card holds in a stripe is on that card in that stripe
@@ -90,12 +90,12 @@ module _ (N S : ℕ) where
       let n = N - 1 in
       let p = positionOf N s c in
       let cards : 0 < N = lt-of-le-of-lt zero-le (h .card) in
-      let unit : p < n = let q = positionOf-below N cards s c in let u = h .unit in omega arith in
+      let unit : p < n = let q = placed N cards .position-below s c in let u = h .unit in omega arith in
       let number : L ≡ s * n + p = h .number ∙ ap (λ (k : ℕ). k + p) (mul-comm n s) in
       let stripe : stripeOf N L ≡ s = ap (λ (k : ℕ). k / n) number ∙ grid-row n s p unit in
       let place : unitOf N L ≡ p = ap (λ (k : ℕ). k % n) number ∙ grid-column n s p unit in
       let below : L < n * S = omega (arith, number, grid-inside n S s p (h .stripe) unit) in
-      place-found N S L (h .within) below ∙ rw (stripe, place, cardAt-positionOf N cards s c (h .card))
+      place-found N S L (h .within) below ∙ rw (stripe, place, placed N cards .card-position s c (h .card))
 
   -- the values of an accepted answer are small: a card is below 8, a stripe below 1,024, a block number below 7,168
   pub placed-small : (L c s : ℕ) → placeReply N S L ≡ accepted c s → (c < 8) × (s < 1024)

@@ -1,8 +1,10 @@
 -- The laws of placement and of where blocks stand.
 pub mod Places
+pub mod Placing
 pub mod Turns
 pub mod Answered
 pub mod Inverse
+pub mod Missing
 pub mod Single
 pub mod Grid
 pub mod Apart

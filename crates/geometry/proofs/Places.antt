@@ -1,7 +1,7 @@
 -- The left-symmetric layout is a placement: in each stripe positions and cards are in bijection, and the last position is the parity card's.
 -- Assumes nothing.
 use Prim.Native.Nat.{ℕ, zero, _+_, _-_, _%_, _<_}
-use mathlib.Core.Path.{_≡_, ap, sym, _∙_}
+use mathlib.Core.Path.{_≡_, ap, _∙_}
 use native.Mathlib.Nat.{mod-lt, mod-eq-of-lt, mod-add-mod, add-mod-mod, add-mod-left, add-mod-right}
 use native.Mathlib.Omega.{arith}
 use Rattle.geometry.specs.Placement.{parityCard, cardAt, positionOf}
@@ -49,8 +49,3 @@ module _ (N : ℕ) (some : zero < N) where
         position-card = positionOf-cardAt;
         card-position = cardAt-positionOf;
       }
-
--- different positions of a stripe are on different cards, in any placement
-pub one-position : {N : ℕ} {card position : ℕ → ℕ → ℕ} → Placing N card position → (s i j : ℕ) → i < N → j < N → card s i ≡ card s j → i ≡ j
-one-position {N} {card} {position} p s i j hi hj e =
-    sym (p .position-card s i hi) ∙ ap (position s) e ∙ p .position-card s j hj

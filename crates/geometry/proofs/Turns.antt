@@ -1,30 +1,13 @@
--- Placement without a sum that could wrap: which card and which position, by whether the stripe's turn passes the last card.
+-- The left-symmetric layout without a sum that could wrap: which card and which position, by whether the stripe's turn passes the last card.
 -- Assumes nothing.
 use Prim.Native.Nat.{ℕ, zero-le, _+_, _-_, _%_, _≤_, _<_}
 use mathlib.Core.Path.{_≡_, ap, _∙_}
 use native.Mathlib.Nat.{lt-of-le-of-lt, mod-lt, mod-eq-of-lt, add-mod-left}
 use native.Mathlib.Omega.{arith}
-use borrow.Author.Tests.{lt-ltb, le-ltb}
-use Rattle.geometry.specs.Placement.{parityCard, cardAt, cardIn, positionOf, missingAt}
+pub use Rattle.geometry.proofs.Placing.{cardIn-is}
+use Rattle.geometry.specs.Placement.{parityCard, cardAt, positionOf}
 
 module _ (N s i : ℕ) where
-  -- the total forms: at a position or a card, and where there is none
-  pub cardIn-is : i < N → cardIn N s i ≡ cardAt N s i
-  unfolding cardIn
-  cardIn-is h = simp (lt-ltb i N h)
-
-  pub cardIn-none : N ≤ i → cardIn N s i ≡ N
-  unfolding cardIn
-  cardIn-none h = simp (le-ltb i N h)
-
-  pub missingAt-is : i < N → missingAt N s i ≡ positionOf N s i
-  unfolding missingAt
-  missingAt-is h = simp (lt-ltb i N h)
-
-  pub missingAt-none : N ≤ i → missingAt N s i ≡ N
-  unfolding missingAt
-  missingAt-none h = simp (le-ltb i N h)
-
   pub turn-below : i < N → s % N < N
   turn-below h = mod-lt s (lt-of-le-of-lt zero-le h)
 

@@ -93,12 +93,16 @@ module _ (w : World) (image′ : List ℕ) (same : Decayed (w .state) (w .image)
       let limits = within-limits (geometryOf (w .state)) (w .state .out) (report-passed (w .state) c e .limits) in
       record {
         same-length = same .same-length;
-        same-bytes = λ d s b hd hs hb works. same .same-bytes d s b hd hs hb (λ f. omega (arith, limits .cards-high));
+        same-bytes = λ d s b hd hs hb works. same .same-bytes d s b hd hs hb (λ m. omega (arith, m .is-card, m .is-out, limits .cards-high));
       }
 
   lost-same : Decayed (withLost (w .state)) (w .image) image′
   unfolding outIn
-  lost-same = record { same-length = same .same-length; same-bytes = same .same-bytes }
+  lost-same =
+      record {
+        same-length = same .same-length;
+        same-bytes = λ c s b hc hs hb works. same .same-bytes c s b hc hs hb (λ m. works (record { is-card = m .is-card; is-out = m .is-out }));
+      }
 
   -- a report alters the state, of both alike
   report-both : (c : ℕ) → Both (report c)

@@ -14,7 +14,8 @@ use Rattle.terms.specs.Lists.{part, put}
 use Rattle.terms.proofs.Lists.{length-part, part-cong}
 use Rattle.terms.proofs.Rows.{truth}
 use Rattle.geometry.proofs.Apart.{cell-inside, write-inside}
-use Rattle.geometry.specs.Placement.{cardAt, positionOf, outIn}
+use Rattle.geometry.proofs.Placing.{out-position}
+use Rattle.geometry.specs.Placement.{cardAt, positionOf, Missing, outIn}
 use Rattle.geometry.specs.Placing.{Placing}
 use Rattle.geometry.specs.Store.{writeAt, imageSize, workSize}
 use Rattle.geometry.specs.declared.State.{State}
@@ -26,7 +27,6 @@ use Rattle.array.proofs.Frames.{cell-put-length, cell-put-same, cell-put-other}
 use Rattle.array.proofs.Steps.{Within}
 use Rattle.array.specs.Stepping.{cellOf, meetsOut, workAfter, imageAfter}
 use Rattle.history.specs.History.{Decayed}
-use Rattle.history.proofs.Places.{out-position}
 
 -- ---- a step, of two images
 
@@ -40,8 +40,8 @@ module _ (st : State) (work image image′ : List ℕ) (same : Decayed st image 
   x = missingIn st (r .stripe)
 
   -- the step's card works
-  card-works : (p : ℕ) → p < N → ¬ (p ≡ x) → ¬ (cardAt N (r .stripe) p ≡ outIn st (r .stripe))
-  card-works p hp d e = d (out-position N placing (r .stripe) (outIn st (r .stripe)) p hp e)
+  card-works : (p : ℕ) → p < N → ¬ (p ≡ x) → ¬ Missing st (cardAt N (r .stripe) p) (r .stripe)
+  card-works p hp d m = d (out-position st placing (r .stripe) (outIn st (r .stripe)) p hp (m .is-out))
 
   cell-room : (p : ℕ) → cellOf st r p + st .block ≤ imageSize N (st .stripes) (st .block)
   cell-room p = cell-inside N (st .stripes) (st .block) (cardAt N (r .stripe) p) (r .stripe) (placing .card-below (r .stripe) p) stripe-below
@@ -86,12 +86,12 @@ module _ (st : State) (work image image′ : List ℕ) (same : Decayed st image 
       there l h d t b differ ht hb =
           cell-put-other N (st .stripes) (st .block) l h c (r .stripe) (placing .card-below (r .stripe) p) stripe-below block size d t b ht hb differ
 
-      elsewhere : (d t b : ℕ) → d < N → t < st .stripes → b < st .block → ¬ (d ≡ outIn st t) → (c ≡ d → r .stripe ≡ t → ⊥)
+      elsewhere : (d t b : ℕ) → d < N → t < st .stripes → b < st .block → ¬ Missing st d t → (c ≡ d → r .stripe ≡ t → ⊥)
           → byteAt (st .stripes) (st .block) (put (cellOf st r p) block image′) d t b ≡ byteAt (st .stripes) (st .block) (put (cellOf st r p) block image) d t b
       elsewhere d t b hd ht hb works differ =
           there image′ (same .same-length ∙ long) d t b differ ht hb ∙ same .same-bytes d t b hd ht hb works ∙ sym (there image long d t b differ ht hb)
 
-      go : (d t b : ℕ) → d < N → t < st .stripes → b < st .block → ¬ (d ≡ outIn st t)
+      go : (d t b : ℕ) → d < N → t < st .stripes → b < st .block → ¬ Missing st d t
           → (eqb c d ≡ true) ⊎ (eqb c d ≡ false) → (eqb (r .stripe) t ≡ true) ⊎ (eqb (r .stripe) t ≡ false)
           → byteAt (st .stripes) (st .block) (put (cellOf st r p) block image′) d t b ≡ byteAt (st .stripes) (st .block) (put (cellOf st r p) block image) d t b
       go d t b hd ht hb works (inl e) (inl f) =

@@ -20,7 +20,9 @@ pub mod Admit
 pub mod View
 pub mod Step
 pub mod Done
+pub mod Carried
 pub mod Report
+pub mod PutRight
 pub mod Collect
 pub mod Decay
 pub mod Replies

@@ -103,7 +103,7 @@ unfolding bookkeeping
 old-state = (
   dead,
   noted (report 0 ∷ []),
-  decayed (made (report 0 ∷ [])) (fill 1 ++ replicate 32 0) (block-decays (noted (report 0 ∷ []) .state) zeros refl 0 0 (lit< tt) (lit< tt) refl (fill 1) refl),
+  decayed (made (report 0 ∷ [])) (fill 1 ++ replicate 32 0) (block-decays (noted (report 0 ∷ []) .state) zeros refl 0 0 (lit< tt) (record { is-card = lit< tt; is-out = refl }) (fill 1) refl),
   refl,
   start .state,
   λ p. wrong (p .reads 0 (lit< tt, refl) refl),

@@ -11,8 +11,8 @@ use lib.ListN.{length, replicate, length-replicate, getD-replicate}
 use Rattle.terms.specs.Reply.{row}
 use Rattle.terms.proofs.Rows.{true≢false}
 use Rattle.geometry.proofs.Bounds.{Bounds, within-limits, within-limits-out}
+use Rattle.geometry.proofs.Placing.{missingAt-is}
 use Rattle.geometry.specs.Limits.{none}
-use Rattle.geometry.proofs.Turns.{missingAt-is}
 use Rattle.geometry.specs.Placement.{outIn, missingAt}
 use Rattle.geometry.specs.declared.Geometry.{Geometry}
 use Rattle.geometry.specs.declared.State.{State}

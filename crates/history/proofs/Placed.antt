@@ -2,9 +2,9 @@
 -- needs no other proof.
 -- Assumes nothing.
 use Prim.Native.Nat.{ℕ, zero, _<_}
-use Rattle.geometry.proofs.Places.{left-symmetric}
+use Rattle.geometry.proofs.Placing.{placed}
 use Rattle.geometry.specs.Placement.{cardAt, positionOf}
 use Rattle.geometry.specs.Placing.{Placing}
 
 pub layout : (N : ℕ) → zero < N → Placing N (cardAt N) (positionOf N)
-layout = left-symmetric
+layout = placed

@@ -1,32 +1,10 @@
--- Which position is missing and which card is out, in any placement; and block numbers as stripes and units.
+-- Block numbers as stripes and units.
 -- Assumes nothing.
 use Prim.Native.Nat.{ℕ, zero, _+_, _-_, _*_, _<_}
-use mathlib.Core.Bool.{Bool, true, false}
-use mathlib.Core.Path.{_≡_, refl, sym, ap, _∙_}
+use mathlib.Core.Path.{_≡_, refl, ap, _∙_}
 use native.Mathlib.Nat.{mul-add-div, mul-add-mod-self-left, div-eq-of-lt, mod-eq-of-lt, mod-lt, div-add-mod, div-lt-iff-lt-mul, mul-le-mul-right, add-zero}
 use native.Mathlib.Omega.{arith}
-use borrow.Author.Tests.{ltb-true, ltb-false}
-use lib.Dec.{ltb}
-use Rattle.geometry.proofs.Turns.{missingAt-is, missingAt-none}
-use Rattle.geometry.specs.Placement.{cardAt, positionOf, missingAt, stripeOf, unitOf, blockOf}
-use Rattle.geometry.specs.Placing.{Placing}
-
-module _ (N : ℕ) (placing : Placing N (cardAt N) (positionOf N)) (s c p : ℕ) (hp : p < N) where
-  -- the position of the card is the missing one
-  pub out-position : cardAt N s p ≡ c → p ≡ missingAt N s c
-  out-position e =
-      let hc : c < N = rw e at (placing .card-below s p) in
-      sym (missingAt-is N s c hc ∙ ap (positionOf N s) (sym e) ∙ placing .position-card s p hp)
-
-  pub out-card : p ≡ missingAt N s c → cardAt N s p ≡ c
-  out-card e = go (ltb c N) refl
-    where
-      go : (t : Bool) → ltb c N ≡ t → cardAt N s p ≡ c
-      go true f =
-          let hc = ltb-true c N f in
-          ap (cardAt N s) (e ∙ missingAt-is N s c hc) ∙ placing .card-position s c hc
-      go false f =
-          let z : p ≡ N = e ∙ missingAt-none N s c (ltb-false c N f) in absurd (omega arith)
+use Rattle.geometry.specs.Placement.{stripeOf, unitOf, blockOf}
 
 -- unit u of stripe s, u below n
 module _ (N s u : ℕ) (hu : u < N - 1) where

@@ -9,7 +9,7 @@ use lib.Dec.{eqb}
 use Rattle.terms.specs.Sets.{xorTo}
 use Rattle.terms.proofs.Sets.{xorTo-cong}
 use Rattle.block.proofs.Sums.{others, sum-reorder}
-use Rattle.geometry.proofs.Places.{one-position}
+use Rattle.geometry.proofs.Placing.{one-position}
 use Rattle.geometry.specs.Placement.{cardAt, positionOf}
 use Rattle.geometry.specs.Placing.{Placing}
 use Rattle.parity.specs.Parity.{byteAt, parityByte}

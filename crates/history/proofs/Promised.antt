@@ -204,7 +204,7 @@ module _ (w : World) (row : ℕ → List ℕ) (entry : ℕ → Entry) where
             omega (arith, agree i h .same-count)
         go (inr f) (inr o) =
             let count = fits (sure .right) i h f .right-count in
-            leb-true (r .count) (2 * unitsOf st + 3) (and-right (lacksNone st r) _ (rw o at count))
+            leb-true (r .count) (2 * unitsOf st + 3) (and-right (lacksNone st r) _ (and-right (isFinished r) _ (rw o at count)))
 
     -- ---- what is lent is right
 

@@ -17,6 +17,7 @@ use Rattle.terms.proofs.Sets.{xorTo-cong}
 use Rattle.block.proofs.Sums.{changedTo, others, term-sum-zero}
 use Rattle.block.proofs.Xor.{xor-zero-eq}
 use Rattle.geometry.proofs.Apart.{cell-inside}
+use Rattle.geometry.proofs.Placing.{out-position, out-card}
 use Rattle.geometry.specs.Placement.{cardAt, positionOf, outIn, stripeOf, unitOf, cardOf}
 use Rattle.geometry.specs.Placing.{Placing}
 use Rattle.geometry.specs.Store.{cellAt, imageSize}
@@ -27,7 +28,7 @@ use Rattle.stripe.proofs.Bytes.{bytes}
 use Rattle.stripe.specs.Invariant.{Idle}
 use Rattle.history.specs.Row.{blockAt, restOf, openedRow}
 use Rattle.history.proofs.Invariant.{cellsOf}
-use Rattle.history.proofs.Places.{out-position, out-card, block-stripe, block-unit, stripe-below}
+use Rattle.history.proofs.Places.{block-stripe, block-unit, stripe-below}
 use Rattle.history.proofs.Positions.{parity-sum, rest-sum}
 use Rattle.history.proofs.Rows.{unitByte, rowOf, row-unit, row-parity, row-is-row}
 
@@ -110,11 +111,11 @@ module _ (st : State) (image : List ℕ) (some-unit : 1 < st .cards)
         go : (t : Bool) → eqb (cardAt N s u) (outIn st s) ≡ t
             → getD (cond t (restOf st image (cardAt N s u) s) (blockAt st image (cardAt N s u) s)) b 0 ≡ whole u
         go true e =
-            let here = out-position N placing s (outIn st s) u small (eqb-true (cardAt N s u) (outIn st s) e) in
+            let here = out-position st placing s (outIn st s) u small (eqb-true (cardAt N s u) (outIn st s) e) in
             rest-byte s u b small hb ∙ ap (λ (v : ℕ). xorTo N (others v cells)) here ∙ sym (rw (eq-eqb u x here))
         go false e =
             block-byte (cardAt N s u) s b hb
-            ∙ sym (whole-there u (λ f. eqb-false (cardAt N s u) (outIn st s) e (out-card N placing s (outIn st s) u small f)))
+            ∙ sym (whole-there u (λ f. eqb-false (cardAt N s u) (outIn st s) e (out-card st placing s (outIn st s) u small f)))
 
     pub opened-rests : (N ≤ x → parityByte N (st .stripes) (st .block) image s b ≡ 0)
         → Idle bytes (unitsOf st) x (rowOf st (openedRow st image) s b) cells

@@ -17,8 +17,8 @@ use Rattle.terms.proofs.Sets.{xorTo-cong}
 use Rattle.block.proofs.Sums.{others, sum-zero-term}
 use Rattle.geometry.proofs.Bounds.{Bounds}
 use Rattle.geometry.specs.Limits.{none}
-use Rattle.geometry.proofs.Turns.{missingAt-none}
-use Rattle.geometry.specs.Placement.{cardAt, positionOf, outIn, stripeOf, unitOf, cardOf, blockOf}
+use Rattle.geometry.proofs.Placing.{missingAt-none, out-position, out-card}
+use Rattle.geometry.specs.Placement.{cardAt, positionOf, Missing, outIn, stripeOf, unitOf, cardOf, blockOf}
 use Rattle.geometry.specs.Placing.{Placing}
 use Rattle.geometry.specs.declared.State.{State}
 use Rattle.parity.specs.Parity.{parityByte}
@@ -28,14 +28,13 @@ use Rattle.array.proofs.Scans.{scan-granted}
 use Rattle.stripe.proofs.Bytes.{sum-xor}
 use Rattle.stripe.specs.Invariant.{IsRow}
 use Rattle.history.specs.Account.{Account}
-use Rattle.history.specs.History.{Missing}
 use Rattle.history.specs.Row.{blockAt, restOf, parityOfRow}
 use Rattle.history.specs.World.{World, scan, play}
 use Rattle.history.proofs.Facts.{bounds}
 use Rattle.history.proofs.Invariant.{Sure, cellsOf}
 use Rattle.history.proofs.Parities.{right-intro}
 use Rattle.history.proofs.Placed.{layout}
-use Rattle.history.proofs.Places.{out-position, out-card, block-back, unit-below, stripe-below}
+use Rattle.history.proofs.Places.{block-back, unit-below, stripe-below}
 use Rattle.history.proofs.Positions.{parity-sum}
 use Rattle.history.proofs.ReadOff.{block-byte, block-size, rest-byte, rest-size}
 use Rattle.history.proofs.Rows.{unitByte, rowOf, row-unit, row-parity}
@@ -63,7 +62,7 @@ module _ (w : World) (a : Account) (sure : Sure w a) where
 
   module _ (s : ℕ) (hs : s < st .stripes) (idle : held (w .table) s ≡ false) where
     -- the block of a working position is what the row says at each byte
-    held-block : (p : ℕ) → p ≤ unitsOf st → ¬ (cardAt N s p ≡ outIn st s) → (l : List ℕ) → length l ≡ st .block
+    held-block : (p : ℕ) → p ≤ unitsOf st → ¬ Missing st (cardAt N s p) s → (l : List ℕ) → length l ≡ st .block
         → ((b : ℕ) → b < st .block → rowOf st (a .row) s b p ≡ getD l b 0) → blockAt st (w .image) (cardAt N s p) s ≡ l
     held-block p hp works l size same =
         let long = block-size st (w .image) some-unit placing (sure .right .image-right) (cardAt N s p) s (placing .card-below s p) hs in
@@ -71,7 +70,8 @@ module _ (w : World) (a : Account) (sure : Sure w a) where
         (λ b h.
         let hb : b < st .block = omega (arith, long) in
         block-byte st (w .image) some-unit placing (sure .right .image-right) (cardAt N s p) s b hb
-        ∙ sure .resting s hs idle b hb .holds p hp (λ e. works (out-card N placing s (outIn st s) p (omega (arith, some-card)) e))
+        ∙ sure .resting s hs idle b hb .holds p hp
+        (λ e. works (record { is-card = placing .card-below s p; is-out = out-card st placing s (outIn st s) p (omega (arith, some-card)) e }))
         ∙ same b hb)
 
     -- the row sums to nothing at each byte
@@ -81,19 +81,19 @@ module _ (w : World) (a : Account) (sure : Sure w a) where
         ap (λ (k : ℕ). xorTo k (rowOf st (a .row) s b)) (let e : N ≡ suc (unitsOf st) = omega (arith, some-card) in e)
         ∙ sym (sum-xor (suc (unitsOf st)) (rowOf st (a .row) s b)) ∙ sure .resting s hs idle b hb .row
 
-    unit-block : (u : ℕ) → u < unitsOf st → length (a .row (blockOf N s u)) ≡ st .block → ¬ (cardAt N s u ≡ outIn st s)
+    unit-block : (u : ℕ) → u < unitsOf st → length (a .row (blockOf N s u)) ≡ st .block → ¬ Missing st (cardAt N s u) s
         → blockAt st (w .image) (cardAt N s u) s ≡ a .row (blockOf N s u)
     unit-block u hu size works =
         held-block u (omega arith) works (a .row (blockOf N s u)) size (λ b hb. row-unit st (a .row) s b u hu)
 
-    parity-block : ¬ (cardAt N s (unitsOf st) ≡ outIn st s) → blockAt st (w .image) (cardAt N s (unitsOf st)) s ≡ parityOfRow st (a .row) s
+    parity-block : ¬ Missing st (cardAt N s (unitsOf st)) s → blockAt st (w .image) (cardAt N s (unitsOf st)) s ≡ parityOfRow st (a .row) s
     unfolding parityOfRow
     parity-block works =
         held-block (unitsOf st) (omega arith) works _ (length-tabulate (st .block) _)
         (λ b hb. row-parity st (a .row) s b ∙ sym (getD-tabulate (st .block) (λ c. xorTo (unitsOf st) (unitByte st (a .row) s c)) b 0 hb))
 
     -- the missing unit is the sum of the others
-    unit-inferred : (u : ℕ) → u < unitsOf st → length (a .row (blockOf N s u)) ≡ st .block → cardAt N s u ≡ outIn st s
+    unit-inferred : (u : ℕ) → u < unitsOf st → length (a .row (blockOf N s u)) ≡ st .block → Missing st (cardAt N s u) s
         → restOf st (w .image) (cardAt N s u) s ≡ a .row (blockOf N s u)
     unit-inferred u hu size out =
         let long = rest-size st (w .image) some-unit placing (sure .right .image-right) (cardAt N s u) s in
@@ -112,7 +112,7 @@ module _ (w : World) (a : Account) (sure : Sure w a) where
         same b hb p l false e =
             rw e
             (sure .resting s hs idle b hb .holds p (omega arith)
-            (λ f. eqb-false p u e (f ∙ sym (out-position N placing s (outIn st s) u (omega arith) out))))
+            (λ f. eqb-false p u e (f ∙ sym (out-position st placing s (outIn st s) u (omega arith) (out .is-out)))))
 
     -- and with none missing the parity is right
     parity-right : st .out ≡ none → (b : ℕ) → b < st .block → parityByte N (st .stripes) (st .block) (w .image) s b ≡ 0

@@ -38,7 +38,7 @@ module _ (st : State) (image image′ : List ℕ) (same : Decayed st image image
   module _ (none-out : (s : ℕ) → ¬ (outIn st s < st .cards)) where
     byte-same : (c s b : ℕ) → c < st .cards → s < st .stripes → b < st .block
         → byteAt (st .stripes) (st .block) image′ c s b ≡ byteAt (st .stripes) (st .block) image c s b
-    byte-same c s b hc hs hb = same .same-bytes c s b hc hs hb (λ e. none-out s (omega arith))
+    byte-same c s b hc hs hb = same .same-bytes c s b hc hs hb (λ m. let l = m .is-card in let e = m .is-out in none-out s (omega arith))
 
     parity-same : (s b : ℕ) → s < st .stripes → b < st .block
         → parityByte (st .cards) (st .stripes) (st .block) image′ s b ≡ parityByte (st .cards) (st .stripes) (st .block) image s b

@@ -9,7 +9,7 @@ use borrow.Author.Tests.{eqb-true, eqb-false}
 use lib.Bits.{bitXor}
 use lib.Dec.{eqb}
 use Rattle.terms.specs.Sets.{xorTo}
-use Rattle.geometry.proofs.Places.{one-position}
+use Rattle.geometry.proofs.Placing.{one-position}
 use Rattle.geometry.specs.Placement.{cardAt}
 use Rattle.geometry.specs.declared.State.{State}
 use Rattle.graph.specs.Steps.{Step, rd, xr, wr, nil}

@@ -9,7 +9,7 @@ use lib.ListN.{length}
 use Rattle.terms.specs.Lists.{every}
 use Rattle.terms.specs.Reply.{onAccept}
 use Rattle.geometry.specs.Limits.{none}
-use Rattle.geometry.specs.Placement.{outIn}
+use Rattle.geometry.specs.Placement.{Missing}
 use Rattle.geometry.specs.declared.Geometry.{Geometry}
 use Rattle.geometry.specs.declared.State.{State}
 use Rattle.parity.specs.Parity.{byteAt}
@@ -19,10 +19,6 @@ use Rattle.array.specs.Refusals.{opened as openedState}
 use Rattle.history.specs.Account.{Account, vacant, noted}
 use Rattle.history.specs.Row.{openedRow}
 use Rattle.history.specs.World.{World, Event, admit, step, report, collect, scan, Engine, withImage}
-
--- card c's block of stripe s is missing: that card is out there
-abbrev pub Missing : State → ℕ → ℕ → Type 0
-Missing st c s = c ≡ outIn st s
 
 -- an image turns to one of the same length that agrees with it on every block that is not missing
 pub record Decayed (st : State) (image image′ : List ℕ) : Type 0 where

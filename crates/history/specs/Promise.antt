@@ -10,14 +10,14 @@ use lib.ListN.{length, drop}
 use Rattle.terms.specs.Lists.{part}
 use Rattle.terms.specs.Reply.{accepted}
 use Rattle.geometry.specs.Limits.{none}
-use Rattle.geometry.specs.Placement.{stripeOf, cardOf, cardAt}
+use Rattle.geometry.specs.Placement.{stripeOf, cardOf, cardAt, Missing}
 use Rattle.geometry.specs.Store.{readAt}
 use Rattle.geometry.specs.declared.State.{State}
 use Rattle.record.specs.Life.{isWrite, unitsOf}
 use Rattle.record.specs.Sound.{sound}
 use Rattle.record.specs.declared.Record.{Record}
 use Rattle.history.specs.Account.{Account, Entry}
-use Rattle.history.specs.History.{Missing, History, Whole}
+use Rattle.history.specs.History.{History, Whole}
 use Rattle.history.specs.Row.{blockAt, restOf, gathered, parityOfRow}
 use Rattle.history.specs.World.{World, Event, admit, step, collect, scan, Engine, recordAt}
 

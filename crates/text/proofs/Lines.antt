@@ -20,7 +20,7 @@ use Rattle.geometry.specs.Placement.{positionOf, blockOf}
 use Rattle.geometry.specs.declared.Held.{Held}
 use Rattle.geometry.specs.declared.Held.the-variants as held
 use Rattle.geometry.proofs.Answered.{places-bounds, blocks-few, block-at-parity, block-at-found}
-use Rattle.geometry.proofs.Places.{positionOf-below}
+use Rattle.geometry.proofs.Placing.{placed}
 use Rattle.text.specs.Decimal.{decimal}
 use Rattle.text.specs.Input.{space, newline}
 use Rattle.text.specs.Line.{letterP, shown, heldText, cardsText, lineText, lineRoom, written}
@@ -75,7 +75,7 @@ module _ (N S s : ℕ) (legal : beyondPlaces N S ≡ false) (below : s < S) wher
       block : eqb (positionOf N s c) (N - 1) ≡ false → length (shown N s c) ≤ 4
       block t =
           let b = places-bounds N S legal in
-          rw t (decimal-length (blockOf N s (positionOf N s c)) 3 (omega (arith, positionOf-below N (omega arith) s c, blocks-few N S legal s (omega arith))))
+          rw t (decimal-length (blockOf N s (positionOf N s c)) 3 (omega (arith, placed N (omega arith) .position-below s c, blocks-few N S legal s (omega arith))))
 
   -- k cards take at most five bytes each
   pub cards-size : (k : ℕ) → k ≤ N → length (cardsText N s k) ≤ 5 * k

@@ -10,8 +10,7 @@ use Rattle.terms.specs.Reply.{accepted}
 use Rattle.geometry.specs.Answers.{beyondPlaces, heldReply}
 use Rattle.geometry.specs.Placement.{positionOf}
 use Rattle.geometry.proofs.Answered.{places-bounds, blocks-few, block-at-beyond, block-at-no-card, block-at-no-stripe, block-at-parity, block-at-found}
-use Rattle.geometry.proofs.Places.{positionOf-below}
-use Rattle.geometry.proofs.Turns.{missingAt-is}
+use Rattle.geometry.proofs.Placing.{placed, missingAt-is}
 use Rattle.geometry.proofs.Geometry.block_at.Statement.{statement}
 use Rattle.geometry.proofs.Geometry.block_at.Tie as tie
 
@@ -64,7 +63,7 @@ add-number c =
     let a = three .before .before .before .before .args in
     let l = few three in
     let some : 0 < a .self .cards = lt-of-le-of-lt zero-le (three .before .if2 .left) in
-    let p = positionOf-below (a .self .cards) some (a .stripe) (a .card) in
+    let p = placed (a .self .cards) some .position-below (a .stripe) (a .card) in
     let b = places-bounds _ _ (within (three .before .before)) in
     record { fits = omega (arith, position (c .before), b .cards-high) }
 

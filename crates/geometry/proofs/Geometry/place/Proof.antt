@@ -10,7 +10,7 @@ use Rattle.terms.specs.Reply.{accepted}
 use Rattle.geometry.specs.Answers.{beyondPlaces, placedReply}
 use Rattle.geometry.specs.Placement.{stripeOf, unitOf}
 use Rattle.geometry.proofs.Answered.{places-bounds, blocks-few, place-beyond, place-range, place-found}
-use Rattle.geometry.proofs.Turns.{cardIn-is}
+use Rattle.geometry.proofs.Placing.{cardIn-is}
 use Rattle.geometry.proofs.Geometry.place.Statement.{statement}
 use Rattle.geometry.proofs.Geometry.place.Tie as tie
 

@@ -3,7 +3,8 @@
 use mathlib.Core.Path.{sym, _∙_}
 use native.Mathlib.Nat.{le-of-lt}
 use borrow.Author.Needs.{needs}
-use Rattle.geometry.proofs.Turns.{cardIn-is, cardIn-none, turn-below, card-before, card-from}
+use Rattle.geometry.proofs.Placing.{cardIn-is, cardIn-none}
+use Rattle.geometry.proofs.Turns.{turn-below, card-before, card-from}
 use Rattle.geometry.proofs.placement.card_at.Statement.{statement}
 use Rattle.geometry.proofs.placement.card_at.Tie as tie
 

@@ -3,7 +3,8 @@
 use mathlib.Core.Path.{sym, _∙_}
 use native.Mathlib.Nat.{le-of-lt}
 use borrow.Author.Needs.{needs}
-use Rattle.geometry.proofs.Turns.{missingAt-is, missingAt-none, turn-below, position-before, position-from}
+use Rattle.geometry.proofs.Placing.{missingAt-is, missingAt-none}
+use Rattle.geometry.proofs.Turns.{turn-below, position-before, position-from}
 use Rattle.geometry.proofs.placement.missing_at.Statement.{statement}
 use Rattle.geometry.proofs.placement.missing_at.Tie as tie
 
