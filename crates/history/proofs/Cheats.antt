@@ -10,12 +10,12 @@ use lib.Dec.{eqb, ltb, leb, lit<}
 use lib.ListN.{getD, set, replicate}
 use Rattle.geometry.specs.Report.{withLost}
 use Rattle.geometry.specs.declared.State.{State}
-use Rattle.record.specs.Life.{free, isOpen, isFinished, isWrite, unitsOf}
+use Rattle.record.specs.Life.{free, isOpen, isFinished, unitsOf}
 use Rattle.record.specs.declared.Record.{Record}
-use Rattle.history.specs.Examples.{fill}
+use Rattle.history.specs.Examples.{fill, withState, withTable}
 use Rattle.history.specs.Promise.{Keeps}
-use Rattle.history.specs.World.{World, Event, admit, step, report, collect, scan, Outcome, Engine, play, recordAt}
-use Rattle.history.proofs.Runs.{begun, run, bookkeeping, kindOf, recordOf, accepts, leaving, withState, withTable}
+use Rattle.history.specs.World.{Event, admit, step, report, collect, scan, Outcome, Engine, play, recordAt}
+use Rattle.history.proofs.Runs.{begun, run, bookkeeping, kindOf, recordOf, accepts, leaving}
 
 -- ---- one that accepts reports and forgets them
 
