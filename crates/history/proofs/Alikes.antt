@@ -12,6 +12,7 @@ use Rattle.terms.specs.Reply.{refused}
 use Rattle.terms.proofs.Rows.{truth}
 use Rattle.geometry.proofs.Bounds.{Bounds, within-limits}
 use Rattle.geometry.specs.Limits.{geometryOf, none, beyondState}
+use Rattle.geometry.proofs.Missing.{none-missing}
 use Rattle.geometry.specs.Placement.{outIn}
 use Rattle.geometry.specs.Report.{reporting, reportRefusal, marked, withOut, withLost}
 use Rattle.geometry.specs.declared.State.{State}
@@ -29,7 +30,7 @@ use Rattle.history.specs.History.{Decayed}
 use Rattle.history.specs.World.{World, Event, admit, step, report, collect, scan, play, recordAt}
 use Rattle.history.proofs.Calls.{work-same, image-same}
 use Rattle.history.proofs.Facts.{bounds, open-fits}
-use Rattle.history.proofs.Placed.{layout}
+use Rattle.geometry.proofs.Placing.{placed-in}
 use Rattle.history.proofs.Scans.{scan-same}
 use Rattle.history.proofs.Step.{kind-within}
 use Rattle.record.proofs.Clauses.{Fit}
@@ -92,7 +93,7 @@ module _ (w : World) (image′ : List ℕ) (same : Decayed (w .state) (w .image)
       let limits = within-limits (geometryOf (w .state)) (w .state .out) (passed (beyondState (w .state)) 0 _ e .0) in
       record {
         same-length = same .same-length;
-        same-bytes = λ d s b hd hs hb works. same .same-bytes d s b hd hs hb (λ m. omega (arith, m .is-card, m .is-out, limits .cards-high));
+        same-bytes = λ d s b hd hs hb works. same .same-bytes d s b hd hs hb (none-missing (w .state) d s (omega (arith, limits .cards-high)));
       }
 
   lost-same : Decayed (withLost (w .state)) (w .image) image′
@@ -169,10 +170,10 @@ module _ (w : World) (image′ : List ℕ) (same : Decayed (w .state) (w .image)
               same-reply = refl;
               same-table = refl;
               same-work =
-                  work-same (w .state) (w .work) (w .image) image′ same r i (layout (w .state .cards) some-card) (ok .right .image-right) (fits .stripe-below)
+                  work-same (w .state) (w .work) (w .image) image′ same r i (placed-in (w .state) some-card) (ok .right .image-right) (fits .stripe-below)
                   (stepOf n k) within e;
               same-image =
-                  image-same (w .state) (w .work) (w .image) image′ same r i (layout (w .state .cards) some-card) (ok .right .image-right) (fits .stripe-below)
+                  image-same (w .state) (w .work) (w .image) image′ same r i (placed-in (w .state) some-card) (ok .right .image-right) (fits .stripe-below)
                   (stepOf n k) within (ok .record-below) (ok .right .work-right);
             })
 
