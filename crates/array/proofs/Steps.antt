@@ -43,10 +43,10 @@ pub record Standing (st : State) (work image : List ℕ) (i : ℕ) (r : Record) 
 
 module _ (st : State) (work image : List ℕ) (i : ℕ) (r : Record) (at : Standing st work image i r) where
   -- a read's block, and a write's, are of B bytes
-  cell-size : (p : ℕ) → length (part (cellOf st r p) (st .block) image) ≡ st .block
-  cell-size p =
+  cell-size : (p : ℕ) → p < st .cards → length (part (cellOf st r p) (st .block) image) ≡ st .block
+  cell-size p hp =
       length-part (cellOf st r p) (st .block) image
-      (omega (arith, at .image-right, cell-inside (st .cards) (st .stripes) (st .block) (cardAt (st .cards) (r .stripe) p) (r .stripe) (at .placing .card-below (r .stripe) p) (at .stripe-below)))
+      (omega (arith, at .image-right, cell-inside (st .cards) (st .stripes) (st .block) (cardAt (st .cards) (r .stripe) p) (r .stripe) (at .placing .card-below (r .stripe) p hp) (at .stripe-below)))
 
   new-size : (p : ℕ) → p < st .cards → length (part (writeAt (st .cards) (st .block) i p) (st .block) work) ≡ st .block
   new-size p hp =
@@ -60,19 +60,19 @@ module _ (st : State) (work image : List ℕ) (i : ℕ) (r : Record) (at : Stand
       ≡ byteAt (st .stripes) (st .block) image (cardAt (st .cards) (r .stripe) p) (r .stripe) b
   unfolding workAfter byteAt
   read-got p b hp hb =
-      got-put-same (st .cards) (st .block) (st .records) work (at .work-right) i p (at .record-below) hp _ (cell-size p) b hb
+      got-put-same (st .cards) (st .block) (st .records) work (at .work-right) i p (at .record-below) hp _ (cell-size p hp) b hb
       ∙ getD-part (cellOf st r p) (st .block) image b 0 hb
 
   pub read-got-other : (p j q b : ℕ) → p < st .cards → q < st .cards → b < st .block → (i ≡ j → p ≡ q → ⊥)
       → gotByte (st .cards) (st .block) (workAfter st i r (rd p) work image) j q b ≡ gotByte (st .cards) (st .block) work j q b
   unfolding workAfter
   read-got-other p j q b hp hq hb differ =
-      got-put-other (st .cards) (st .block) (st .records) work (at .work-right) i p (at .record-below) hp _ (cell-size p) j q b hq hb differ
+      got-put-other (st .cards) (st .block) (st .records) work (at .work-right) i p (at .record-below) hp _ (cell-size p hp) j q b hq hb differ
 
   pub read-new : (p j q b : ℕ) → p < st .cards → q < st .cards → b < st .block
       → newByte (st .cards) (st .block) (workAfter st i r (rd p) work image) j q b ≡ newByte (st .cards) (st .block) work j q b
   unfolding workAfter
-  read-new p j q b hp hq hb = got-put-new (st .cards) (st .block) (st .records) work (at .work-right) i p (at .record-below) hp _ (cell-size p) j q b hq hb
+  read-new p j q b hp hq hb = got-put-new (st .cards) (st .block) (st .records) work (at .work-right) i p (at .record-below) hp _ (cell-size p hp) j q b hq hb
 
   -- ---- the exclusive or, in graph 2: the read block of X becomes the sum
 
@@ -138,7 +138,7 @@ module _ (st : State) (work image : List ℕ) (i : ℕ) (r : Record) (at : Stand
   unfolding imageAfter
   write-cell p b hp hb =
       cell-put-same (st .cards) (st .stripes) (st .block) image (at .image-right) (cardAt (st .cards) (r .stripe) p) (r .stripe)
-      (at .placing .card-below (r .stripe) p) (at .stripe-below) _ (new-size p hp) b hb
+      (at .placing .card-below (r .stripe) p hp) (at .stripe-below) _ (new-size p hp) b hb
       ∙ getD-part (writeAt (st .cards) (st .block) i p) (st .block) work b 0 hb
 
   pub write-cell-other : (p c t b : ℕ) → p < st .cards → t < st .stripes → b < st .block
@@ -147,13 +147,13 @@ module _ (st : State) (work image : List ℕ) (i : ℕ) (r : Record) (at : Stand
   unfolding imageAfter
   write-cell-other p c t b hp ht hb differ =
       cell-put-other (st .cards) (st .stripes) (st .block) image (at .image-right) (cardAt (st .cards) (r .stripe) p) (r .stripe)
-      (at .placing .card-below (r .stripe) p) (at .stripe-below) _ (new-size p hp) c t b ht hb differ
+      (at .placing .card-below (r .stripe) p hp) (at .stripe-below) _ (new-size p hp) c t b ht hb differ
 
   -- ---- any step: lengths stay, and so do other records' blocks and other stripes
 
   pub step-work-length : (s : Step) → Within (st .cards) s → length (workAfter st i r s work image) ≡ length work
   unfolding workAfter
-  step-work-length (rd p) hp = got-put-length (st .cards) (st .block) (st .records) work (at .work-right) i p (at .record-below) hp _ (cell-size p)
+  step-work-length (rd p) hp = got-put-length (st .cards) (st .block) (st .records) work (at .work-right) i p (at .record-below) hp _ (cell-size p hp)
   step-work-length xr h = by-place (sumsToRead (r .graph)) refl
     where
       by-place : (t : Bool) → sumsToRead (r .graph) ≡ t → length (put (sumAt st i r) (tabulate (st .block) (sumByte st i r work)) work) ≡ length work
@@ -172,7 +172,7 @@ module _ (st : State) (work image : List ℕ) (i : ℕ) (r : Record) (at : Stand
   step-image-length xr h = refl
   step-image-length (wr p) hp =
       cell-put-length (st .cards) (st .stripes) (st .block) image (at .image-right) (cardAt (st .cards) (r .stripe) p) (r .stripe)
-      (at .placing .card-below (r .stripe) p) (at .stripe-below) _ (new-size p hp)
+      (at .placing .card-below (r .stripe) p hp) (at .stripe-below) _ (new-size p hp)
   step-image-length nil h = refl
 
   pub step-got-other : (s : Step) → Within (st .cards) s → (j q b : ℕ) → ¬ (i ≡ j) → q < st .cards → b < st .block

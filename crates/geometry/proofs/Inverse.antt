@@ -80,7 +80,7 @@ module _ (N S : ℕ) where
       let stripe : stripeOf N L < S = div-lt-iff-lt-mul some .1 (omega (arith, f .below)) in
       let position = placed N cards .position-card (stripeOf N L) (unitOf N L) small in
       rw (← ap (λ (r : Reply). r .first) q, ← ap (λ (r : Reply). r .second) q)
-      (block-at-found N S (cardOf N L) (stripeOf N L) (f .within) (placed N cards .card-below (stripeOf N L) (unitOf N L)) stripe (λ p. let z = sym position ∙ p in omega arith)
+      (block-at-found N S (cardOf N L) (stripeOf N L) (f .within) (placed N cards .card-below (stripeOf N L) (unitOf N L) small) stripe (λ p. let z = sym position ∙ p in omega arith)
       ∙ ap (accepted 0) (ap (blockOf N (stripeOf N L)) position ∙ div-add-mod L (N - 1)))
 
   -- and the block that a card holds in a stripe is on that card in that stripe
@@ -90,7 +90,7 @@ module _ (N S : ℕ) where
       let n = N - 1 in
       let p = positionOf N s c in
       let cards : 0 < N = lt-of-le-of-lt zero-le (h .card) in
-      let unit : p < n = let q = placed N cards .position-below s c in let u = h .unit in omega arith in
+      let unit : p < n = let q = placed N cards .position-below s c (h .card) in let u = h .unit in omega arith in
       let number : L ≡ s * n + p = h .number ∙ ap (λ (k : ℕ). k + p) (mul-comm n s) in
       let stripe : stripeOf N L ≡ s = ap (λ (k : ℕ). k / n) number ∙ grid-row n s p unit in
       let place : unitOf N L ≡ p = ap (λ (k : ℕ). k % n) number ∙ grid-column n s p unit in

@@ -44,8 +44,8 @@ module _ (N : ℕ) (some : zero < N) where
   pub left-symmetric : Placing N (cardAt N) (positionOf N)
   left-symmetric =
       record {
-        card-below = cardAt-below;
-        position-below = positionOf-below;
+        card-below = λ s j h. cardAt-below s j;
+        position-below = λ s c h. positionOf-below s c;
         position-card = positionOf-cardAt;
         card-position = cardAt-positionOf;
       }

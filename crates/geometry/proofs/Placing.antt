@@ -9,9 +9,9 @@ use Prim.Native.Nat.{ℕ, zero, _≤_, _<_}
 use mathlib.Core.Bool.{Bool, true, false, cond}
 use mathlib.Core.Path.{_≡_, refl, sym, ap, _∙_}
 use native.Mathlib.Omega.{arith}
-use borrow.Author.Tests.{lt-ltb, le-ltb, ltb-true, ltb-false}
+use borrow.Author.Tests.{lt-ltb, le-ltb, ltb-true}
 use lib.Dec.{ltb}
-use Rattle.geometry.specs.Placement.{cardAt, cardIn, positionOf, missingAt, cardOfPosition, positionOfCard}
+use Rattle.geometry.specs.Placement.{cardAt, cardIn, positionOf, missingAt, cardOfPosition, positionOfCard, Missing, outIn}
 use Rattle.geometry.specs.Placing.{Placing}
 use Rattle.geometry.specs.declared.State.{State}
 use Rattle.geometry.proofs.Places.{left-symmetric}
@@ -27,7 +27,7 @@ module _ {N : ℕ} {card position : ℕ → ℕ → ℕ} (placing : Placing N ca
   module _ (s c p : ℕ) (hp : p < N) where
     pub card-found : card s p ≡ c → p ≡ cond (ltb c N) (position s c) N
     card-found e =
-        let hc : c < N = rw e at (placing .card-below s p) in
+        let hc : c < N = rw e at (placing .card-below s p hp) in
         sym (rw (lt-ltb c N hc) (ap (position s) (sym e) ∙ placing .position-card s p hp))
 
     pub position-found : p ≡ cond (ltb c N) (position s c) N → card s p ≡ c
@@ -61,12 +61,21 @@ module _ (N s i : ℕ) where
   unfolding missingAt
   missingAt-none h = simp (le-ltb i N h)
 
--- the missing position of a stripe is its missing card's
-module _ (st : State) (placing : Placing (st .cards) (cardOfPosition st) (positionOfCard st)) (s c p : ℕ) (hp : p < st .cards) where
-  pub out-position : cardOfPosition st s p ≡ c → p ≡ missingAt (st .cards) s c
-  unfolding missingAt
-  out-position = card-found placing s c p hp
+-- of a state: its placement, and the missing position of a stripe, which is its missing card's
+pub placed-in : (st : State) → zero < st .cards → Placing (st .cards) (cardOfPosition st) (positionOfCard st)
+placed-in st = placed (st .cards)
 
-  pub out-card : p ≡ missingAt (st .cards) s c → cardOfPosition st s p ≡ c
+module _ (st : State) (placing : Placing (st .cards) (cardOfPosition st) (positionOfCard st)) (s p : ℕ) (hp : p < st .cards) where
+  pub out-position : (c : ℕ) → cardOfPosition st s p ≡ c → p ≡ missingAt (st .cards) s c
   unfolding missingAt
-  out-card = position-found placing s c p hp
+  out-position c = card-found placing s c p hp
+
+  pub out-card : (c : ℕ) → p ≡ missingAt (st .cards) s c → cardOfPosition st s p ≡ c
+  unfolding missingAt
+  out-card c = position-found placing s c p hp
+
+  pub missing-position : Missing st (cardOfPosition st s p) s → p ≡ missingAt (st .cards) s (outIn st s)
+  missing-position m = out-position (outIn st s) (m .is-out)
+
+  pub position-missing : p ≡ missingAt (st .cards) s (outIn st s) → Missing st (cardOfPosition st s p) s
+  position-missing e = record { is-card = placing .card-below s p hp; is-out = out-card (outIn st s) e }

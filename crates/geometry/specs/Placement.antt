@@ -41,6 +41,10 @@ cardOfPosition st = cardAt (st .cards)
 abbrev pub positionOfCard : State → ℕ → ℕ → ℕ
 positionOfCard st = positionOf (st .cards)
 
+-- and the card of logical block L
+abbrev pub cardOfBlock : State → ℕ → ℕ
+cardOfBlock st = cardOf (st .cards)
+
 -- the card that is missing in a stripe, or 255: the card that is out
 unfoldable pub outIn : State → ℕ → ℕ
 outIn st s = st .out

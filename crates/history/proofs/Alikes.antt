@@ -11,6 +11,8 @@ use lib.Dec.{eqb}
 use lib.ListN.{set}
 use Rattle.terms.proofs.Rows.{truth}
 use Rattle.geometry.proofs.Bounds.{Bounds, within-limits}
+use Rattle.geometry.proofs.Missing.{none-missing}
+use Rattle.geometry.proofs.Placing.{placed-in}
 use Rattle.geometry.specs.Limits.{geometryOf, none}
 use Rattle.geometry.specs.Placement.{outIn}
 use Rattle.geometry.specs.Report.{reportRefusal, marked, withOut, withLost}
@@ -30,7 +32,6 @@ use Rattle.history.specs.History.{Decayed}
 use Rattle.history.specs.World.{World, Event, admit, step, report, collect, scan, play, recordAt}
 use Rattle.history.proofs.Calls.{work-same, image-same}
 use Rattle.history.proofs.Facts.{bounds, open-fits}
-use Rattle.history.proofs.Placed.{layout}
 use Rattle.history.proofs.Replies.{admit-taken, step-taken, report-taken, admit-left, step-left, report-left}
 use Rattle.history.proofs.Scans.{scan-same}
 use Rattle.history.proofs.Step.{kind-within}
@@ -96,7 +97,7 @@ module _ (w : World) (image′ : List ℕ) (same : Decayed (w .state) (w .image)
       let limits = within-limits (geometryOf (w .state)) (w .state .out) (report-passed (w .state) c e .limits) in
       record {
         same-length = same .same-length;
-        same-bytes = λ d s b hd hs hb works. same .same-bytes d s b hd hs hb (λ m. omega (arith, m .is-card, m .is-out, limits .cards-high));
+        same-bytes = λ d s b hd hs hb works. same .same-bytes d s b hd hs hb (none-missing (w .state) d s (omega (arith, limits .cards-high)));
       }
 
   lost-same : Decayed (withLost (w .state)) (w .image) image′
@@ -181,10 +182,10 @@ module _ (w : World) (image′ : List ℕ) (same : Decayed (w .state) (w .image)
               same-reply = refl;
               same-stands = refl;
               same-work =
-                  work-same (w .state) (w .work) (w .image) image′ same r i (layout (w .state .cards) some-card) (ok .right .image-right) (fits .stripe-below)
+                  work-same (w .state) (w .work) (w .image) image′ same r i (placed-in (w .state) some-card) (ok .right .image-right) (fits .stripe-below)
                   (stepOf n k) within e;
               same-image =
-                  image-same (w .state) (w .work) (w .image) image′ same r i (layout (w .state .cards) some-card) (ok .right .image-right) (fits .stripe-below)
+                  image-same (w .state) (w .work) (w .image) image′ same r i (placed-in (w .state) some-card) (ok .right .image-right) (fits .stripe-below)
                   (stepOf n k) within (ok .record-below) (ok .right .work-right);
             })
 

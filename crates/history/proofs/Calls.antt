@@ -14,8 +14,8 @@ use Rattle.terms.specs.Lists.{part, put}
 use Rattle.terms.proofs.Lists.{length-part, part-cong}
 use Rattle.terms.proofs.Rows.{truth}
 use Rattle.geometry.proofs.Apart.{cell-inside, write-inside}
-use Rattle.geometry.proofs.Placing.{out-position}
-use Rattle.geometry.specs.Placement.{cardAt, positionOf, Missing, outIn}
+use Rattle.geometry.proofs.Placing.{missing-position}
+use Rattle.geometry.specs.Placement.{cardOfPosition, positionOfCard, Missing}
 use Rattle.geometry.specs.Placing.{Placing}
 use Rattle.geometry.specs.Store.{writeAt, imageSize, workSize}
 use Rattle.geometry.specs.declared.State.{State}
@@ -31,7 +31,7 @@ use Rattle.history.specs.History.{Decayed}
 -- ---- a step, of two images
 
 module _ (st : State) (work image image′ : List ℕ) (same : Decayed st image image′) (r : Record) (i : ℕ)
-    (placing : Placing (st .cards) (cardAt (st .cards)) (positionOf (st .cards)))
+    (placing : Placing (st .cards) (cardOfPosition st) (positionOfCard st))
     (long : length image ≡ imageSize (st .cards) (st .stripes) (st .block)) (stripe-below : r .stripe < st .stripes) where
   abbrev N : ℕ
   N = st .cards
@@ -40,19 +40,19 @@ module _ (st : State) (work image image′ : List ℕ) (same : Decayed st image 
   x = missingIn st (r .stripe)
 
   -- the step's card works
-  card-works : (p : ℕ) → p < N → ¬ (p ≡ x) → ¬ Missing st (cardAt N (r .stripe) p) (r .stripe)
-  card-works p hp d m = d (out-position st placing (r .stripe) (outIn st (r .stripe)) p hp (m .is-out))
+  card-works : (p : ℕ) → p < N → ¬ (p ≡ x) → ¬ Missing st (cardOfPosition st (r .stripe) p) (r .stripe)
+  card-works p hp d m = d (missing-position st placing (r .stripe) p hp m)
 
-  cell-room : (p : ℕ) → cellOf st r p + st .block ≤ imageSize N (st .stripes) (st .block)
-  cell-room p = cell-inside N (st .stripes) (st .block) (cardAt N (r .stripe) p) (r .stripe) (placing .card-below (r .stripe) p) stripe-below
+  cell-room : (p : ℕ) → p < N → cellOf st r p + st .block ≤ imageSize N (st .stripes) (st .block)
+  cell-room p hp = cell-inside N (st .stripes) (st .block) (cardOfPosition st (r .stripe) p) (r .stripe) (placing .card-below (r .stripe) p hp) stripe-below
 
   -- a read step reads the same block of both
   block-same : (p : ℕ) → p < N → ¬ (p ≡ x) → part (cellOf st r p) (st .block) image′ ≡ part (cellOf st r p) (st .block) image
   unfolding byteAt
   block-same p hp d =
       part-cong (cellOf st r p) (st .block) image′ (cellOf st r p) image 0
-      (omega (arith, cell-room p, same .same-length)) (omega (arith, cell-room p))
-      (λ b hb. same .same-bytes (cardAt N (r .stripe) p) (r .stripe) b (placing .card-below (r .stripe) p) stripe-below hb (card-works p hp d))
+      (omega (arith, cell-room p hp, same .same-length)) (omega (arith, cell-room p hp))
+      (λ b hb. same .same-bytes (cardOfPosition st (r .stripe) p) (r .stripe) b (placing .card-below (r .stripe) p hp) stripe-below hb (card-works p hp d))
 
   pub work-same : (s : Step) → Within N s → meetsOut x s ≡ false → workAfter st i r s work image′ ≡ workAfter st i r s work image
   unfolding workAfter meetsOut
@@ -62,29 +62,29 @@ module _ (st : State) (work image image′ : List ℕ) (same : Decayed st image 
   work-same nil hp e = refl
 
   -- a block put into both, in one cell
-  put-same : (p : ℕ) (block : List ℕ) → length block ≡ st .block → Decayed st (put (cellOf st r p) block image) (put (cellOf st r p) block image′)
-  put-same p block size =
+  put-same : (p : ℕ) → p < N → (block : List ℕ) → length block ≡ st .block → Decayed st (put (cellOf st r p) block image) (put (cellOf st r p) block image′)
+  put-same p hp block size =
       record {
         same-length = put-length image′ (same .same-length ∙ long) ∙ same .same-length ∙ sym (put-length image long);
         same-bytes = λ d t b hd ht hb works. go d t b hd ht hb works (truth (eqb c d)) (truth (eqb (r .stripe) t));
       }
     where
       c : ℕ
-      c = cardAt N (r .stripe) p
+      c = cardOfPosition st (r .stripe) p
 
       put-length : (l : List ℕ) → length l ≡ imageSize N (st .stripes) (st .block) → length (put (cellOf st r p) block l) ≡ length l
       put-length l h =
-          cell-put-length N (st .stripes) (st .block) l h c (r .stripe) (placing .card-below (r .stripe) p) stripe-below block size
+          cell-put-length N (st .stripes) (st .block) l h c (r .stripe) (placing .card-below (r .stripe) p hp) stripe-below block size
 
       here : (l : List ℕ) → length l ≡ imageSize N (st .stripes) (st .block) → (d t b : ℕ) → c ≡ d → r .stripe ≡ t → b < st .block
           → byteAt (st .stripes) (st .block) (put (cellOf st r p) block l) d t b ≡ getD block b 0
       here l h d t b e f hb =
-          rw (← e, ← f) (cell-put-same N (st .stripes) (st .block) l h c (r .stripe) (placing .card-below (r .stripe) p) stripe-below block size b hb)
+          rw (← e, ← f) (cell-put-same N (st .stripes) (st .block) l h c (r .stripe) (placing .card-below (r .stripe) p hp) stripe-below block size b hb)
 
       there : (l : List ℕ) → length l ≡ imageSize N (st .stripes) (st .block) → (d t b : ℕ) → (c ≡ d → r .stripe ≡ t → ⊥) → t < st .stripes → b < st .block
           → byteAt (st .stripes) (st .block) (put (cellOf st r p) block l) d t b ≡ byteAt (st .stripes) (st .block) l d t b
       there l h d t b differ ht hb =
-          cell-put-other N (st .stripes) (st .block) l h c (r .stripe) (placing .card-below (r .stripe) p) stripe-below block size d t b ht hb differ
+          cell-put-other N (st .stripes) (st .block) l h c (r .stripe) (placing .card-below (r .stripe) p hp) stripe-below block size d t b ht hb differ
 
       elsewhere : (d t b : ℕ) → d < N → t < st .stripes → b < st .block → ¬ Missing st d t → (c ≡ d → r .stripe ≡ t → ⊥)
           → byteAt (st .stripes) (st .block) (put (cellOf st r p) block image′) d t b ≡ byteAt (st .stripes) (st .block) (put (cellOf st r p) block image) d t b
@@ -107,6 +107,6 @@ module _ (st : State) (work image image′ : List ℕ) (same : Decayed st image 
   image-same (rd p) hp hi large = same
   image-same xr hp hi large = same
   image-same (wr p) hp hi large =
-      put-same p (part (writeAt N (st .block) i p) (st .block) work)
+      put-same p hp (part (writeAt N (st .block) i p) (st .block) work)
       (length-part (writeAt N (st .block) i p) (st .block) work (omega (arith, write-inside N (st .block) (st .records) i p hi hp)))
   image-same nil hp hi large = same

@@ -16,10 +16,9 @@ use Rattle.terms.proofs.Rows.{or-cases}
 use Rattle.geometry.proofs.Bounds.{Bounds}
 use Rattle.geometry.proofs.Placing.{missingAt-none}
 use Rattle.geometry.specs.Limits.{none, geometryOf, beyondState}
-use Rattle.geometry.specs.Placement.{cardAt, outIn}
+use Rattle.geometry.specs.Placement.{outIn}
 use Rattle.geometry.specs.declared.Geometry.{Geometry}
 use Rattle.geometry.specs.declared.State.{State}
-use Rattle.parity.specs.Parity.{byteAt}
 use Rattle.record.proofs.Clauses.{Fit, fit, fit-sound}
 use Rattle.record.specs.Life.{isFree, isOpen, unitsOf, missingIn}
 use Rattle.record.specs.Sound.{soundRecord, legalChosen, rightGraph, rightSteps, rightCount, lacksNone, held}
@@ -38,6 +37,11 @@ use Rattle.history.proofs.Facts.{bounds, open-fits}
 use Rattle.history.proofs.Invariant.{Matches, Working, Sure, Resting, cellsOf}
 use Rattle.history.proofs.Rows.{rowOf, afterRow}
 use Rattle.history.proofs.Tables.{Sound, sound-elim, sound-intro, held-elim, holds-elim}
+
+-- a state of a geometry, with these marks
+abbrev pub marks : Geometry → ℕ → ℕ → State
+marks g out lost =
+    record { cards = g .cards; stripes = g .stripes; block = g .block; records = g .records; out = out; lost = lost }
 
 -- ---- of one stripe: position x was missing and y is now, the same one or none was; and positions but y hold what they held
 
@@ -90,11 +94,6 @@ module _ (w : World) (a : Account) (st : State) (image : List ℕ) where
 module _ (w : World) (a : Account) (sure : Sure w a) where
   limits : Bounds (w .state .cards) (w .state .stripes) (w .state .block) (w .state .records)
   limits = bounds (sure .right)
-
-  -- a state of a geometry, with these marks
-  abbrev marks : Geometry → ℕ → ℕ → State
-  marks g out lost =
-      record { cards = g .cards; stripes = g .stripes; block = g .block; records = g .records; out = out; lost = lost }
 
   -- of this world's geometry
   module _ (out lost : ℕ) (image : List ℕ) (carried : Carried w a (marks (geometryOf (w .state)) out lost) image) where
@@ -244,7 +243,7 @@ pub record Onward (st st′ : State) : Type 0 where
 
 -- the bytes of the positions are the same where the geometry is
 pub same-cells : (st st′ : State) → geometryOf st′ ≡ geometryOf st → (image : List ℕ) (s b p : ℕ) → cellsOf st′ image s b p ≡ cellsOf st image s b p
-same-cells st st′ same image s b p = ap (λ (g : Geometry). byteAt (g .stripes) (g .block) image (cardAt (g .cards) s p) s b) same
+same-cells st st′ same image s b p = ap (λ (g : Geometry). cellsOf (marks g none 0) image s b p) same
 
 pub onward-sure : (w : World) (a : Account) → Sure w a → (st : State) → Onward (w .state) st → beyondState st ≡ false → st .lost ≡ 0 → (book : State)
     → Sure (record { state = st; table = w .table; work = w .work; image = w .image }) (record { state = book; row = a .row; entry = a .entry })

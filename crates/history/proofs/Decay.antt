@@ -8,8 +8,8 @@ use native.Mathlib.Omega.{arith}
 use lib.ListN.{length}
 use Rattle.terms.specs.Lists.{put}
 use Rattle.geometry.proofs.Bounds.{Bounds}
-use Rattle.geometry.proofs.Placing.{out-position}
-use Rattle.geometry.specs.Placement.{cardAt, Missing, outIn}
+use Rattle.geometry.proofs.Placing.{placed-in, missing-position}
+use Rattle.geometry.specs.Placement.{cardOfPosition, Missing}
 use Rattle.geometry.specs.Store.{imageSize, cellAt}
 use Rattle.geometry.specs.declared.State.{State}
 use Rattle.record.specs.Life.{unitsOf, missingIn}
@@ -20,7 +20,6 @@ use Rattle.history.specs.World.{World}
 use Rattle.history.proofs.Carried.{carried-sure}
 use Rattle.history.proofs.Facts.{bounds}
 use Rattle.history.proofs.Invariant.{Sure, cellsOf}
-use Rattle.history.proofs.Placed.{layout}
 
 -- a missing block may turn to any block
 pub block-decays : (st : State) (image : List ℕ) → length image ≡ imageSize (st .cards) (st .stripes) (st .block) → (c s : ℕ)
@@ -44,10 +43,10 @@ module _ (w : World) (a : Account) (sure : Sure w a) (image : List ℕ) (decayed
   -- a position that is not missing is on a card that works
   same-cell : (s b p : ℕ) → s < st .stripes → b < st .block → p ≤ unitsOf st → ¬ (p ≡ missingIn st s) → cellsOf st image s b p ≡ cellsOf st (w .image) s b p
   same-cell s b p hs hb l d =
-      let placing = layout (st .cards) (omega (arith, limits .cards-low)) in
+      let placing = placed-in st (omega (arith, limits .cards-low)) in
       let hp : p < st .cards = omega (arith, limits .cards-low) in
-      decayed .same-bytes (cardAt (st .cards) s p) s b (placing .card-below s p) hs hb
-      (λ m. d (out-position st placing s (outIn st s) p hp (m .is-out)))
+      decayed .same-bytes (cardOfPosition st s p) s b (placing .card-below s p hp) hs hb
+      (λ m. d (missing-position st placing s p hp m))
 
   pub decay-sure : Sure (record { state = st; table = w .table; work = w .work; image = image }) a
   decay-sure =

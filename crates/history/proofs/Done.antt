@@ -36,7 +36,7 @@ use Rattle.history.specs.Row.{unitsOfRow}
 use Rattle.history.specs.World.{World, recordAt}
 use Rattle.history.proofs.Gather.{gathered-cong}
 use Rattle.history.proofs.Invariant.{Matches, Working, Resting, Sure, requestOf, viewOf}
-use Rattle.history.proofs.Placed.{layout}
+use Rattle.geometry.proofs.Placing.{placed-in}
 use Rattle.history.proofs.Near.{faithful-near, two-below}
 use Rattle.history.proofs.Places.{block-below}
 use Rattle.history.proofs.Records.{stepped-fit, request-advanced}
@@ -85,7 +85,7 @@ module _ (w : World) (a : Account) (sure : Sure w a) (i k : ℕ) (ok : Ready (w 
   standing : Standing st (w .work) (w .image) i r
   standing =
       record {
-        placing = layout (st .cards) some-card;
+        placing = placed-in st some-card;
         some-card = some-card;
         image-right = sure .right .image-right;
         work-right = sure .right .work-right;

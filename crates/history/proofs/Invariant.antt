@@ -7,7 +7,7 @@ use mathlib.Core.List.{List, []}
 use mathlib.Core.Path.{_≡_, refl, sym}
 use lib.ListN.{length}
 use Rattle.terms.proofs.Rows.{true≢false}
-use Rattle.geometry.specs.Placement.{cardAt}
+use Rattle.geometry.specs.Placement.{cardOfPosition}
 use Rattle.geometry.specs.declared.State.{State}
 use Rattle.parity.specs.Parity.{byteAt}
 use Rattle.record.specs.Life.{free, isOpen, isFinished, isWrite, unitsOf, chosenAt, missingIn}
@@ -32,7 +32,7 @@ requestOf st r =
 
 -- byte b of each position of stripe s
 abbrev pub cellsOf : State → List ℕ → ℕ → ℕ → ℕ → ℕ
-cellsOf st image s b p = byteAt (st .stripes) (st .block) image (cardAt (st .cards) s p) s b
+cellsOf st image s b p = byteAt (st .stripes) (st .block) image (cardOfPosition st s p) s b
 
 -- byte b of stripe s and of record i's blocks, by position
 abbrev pub viewOf : State → List ℕ → List ℕ → ℕ → ℕ → ℕ → Blocks ℕ

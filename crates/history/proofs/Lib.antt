@@ -1,6 +1,5 @@
 -- Why the promise is kept, in the order of the argument. The theorems that others cite are in Demand3.
 -- Placement, rows, tables, and what a stripe's theory looks at
-pub mod Placed
 pub mod Places
 pub mod Positions
 pub mod Rows

@@ -11,14 +11,14 @@ use lib.ListN.{length, replicate, length-replicate, getD-replicate}
 use Rattle.terms.specs.Reply.{row}
 use Rattle.terms.proofs.Rows.{true≢false}
 use Rattle.geometry.proofs.Bounds.{Bounds, within-limits, within-limits-out}
-use Rattle.geometry.proofs.Placing.{missingAt-is}
+use Rattle.geometry.proofs.Placing.{placed-in, missingAt-is}
 use Rattle.geometry.specs.Limits.{none}
-use Rattle.geometry.specs.Placement.{outIn, missingAt}
+use Rattle.geometry.specs.Placement.{outIn}
 use Rattle.geometry.specs.declared.Geometry.{Geometry}
 use Rattle.geometry.specs.declared.State.{State}
 use Rattle.parity.specs.Parity.{parityByte}
 use Rattle.parity.specs.Scan.{nothingHeld}
-use Rattle.record.specs.Life.{free}
+use Rattle.record.specs.Life.{free, missingIn}
 use Rattle.record.specs.declared.Record.{Record}
 use Rattle.array.proofs.Openings.{Opens, openNumber, open-number, open-passed, open-accepted}
 use Rattle.array.specs.Opening.{opening}
@@ -29,7 +29,6 @@ use Rattle.history.specs.Row.{openedRow}
 use Rattle.history.specs.World.{World, recordAt}
 use Rattle.history.proofs.Invariant.{Sure, matches-vacant}
 use Rattle.history.proofs.Parities.{right-elim}
-use Rattle.history.proofs.Placed.{layout}
 use Rattle.history.proofs.ReadOff.{opened-size, opened-rests}
 use Rattle.record.proofs.Clauses.{free-sound}
 use Rattle.history.proofs.Tables.{sound-intro}
@@ -49,12 +48,13 @@ module _ (g : Geometry) (out : ℕ) (table : List Record) (work image : List ℕ
     bounds = within-limits g out (tests .limits)
 
     -- with none out parity is right
-    right-parity : (s b : ℕ) → s < g .stripes → b < g .block → g .cards ≤ missingAt (g .cards) s out → parityByte (g .cards) (g .stripes) (g .block) image s b ≡ 0
+    right-parity : (s b : ℕ) → s < g .stripes → b < g .block → st .cards ≤ missingIn st s → parityByte (g .cards) (g .stripes) (g .block) image s b ≡ 0
+    unfolding opened outIn
     right-parity s b hs hb h = go (within-limits-out g out (tests .limits))
       where
         go : (out < g .cards) ⊎ (out ≡ none) → parityByte (g .cards) (g .stripes) (g .block) image s b ≡ 0
         go (inl l) =
-            absurd (omega (arith, missingAt-is (g .cards) s out l, layout (g .cards) (omega (arith, bounds .cards-low)) .position-below s out))
+            absurd (omega (arith, missingAt-is (st .cards) s out l, placed-in st (omega (arith, bounds .cards-low)) .position-below s out l))
         go (inr e) =
             right-elim (g .cards) (g .stripes) (g .block) image nothingHeld (not-false _ (rw (eq-eqb out none e) at (tests .parity))) s b hs hb refl
 
@@ -82,10 +82,10 @@ module _ (g : Geometry) (out : ℕ) (table : List Record) (work image : List ℕ
             });
             whole = refl;
           };
-          row-size = opened-size st image (omega (arith, bounds .cards-low)) (layout (g .cards) (omega (arith, bounds .cards-low))) (tests .image-right);
+          row-size = opened-size st image (omega (arith, bounds .cards-low)) (placed-in st (omega (arith, bounds .cards-low))) (tests .image-right);
           entries = λ i h. rw (all-free i (omega (arith, tests .table-right))) (matches-vacant st);
           resting = λ s h free-now b hb.
-              opened-rests st image (omega (arith, bounds .cards-low)) (layout (g .cards) (omega (arith, bounds .cards-low))) (tests .image-right) s b hb
+              opened-rests st image (omega (arith, bounds .cards-low)) (placed-in st (omega (arith, bounds .cards-low))) (tests .image-right) s b hb
               (right-parity s b h hb);
           working = λ i h o. true≢false (sym (rw (all-free i (omega (arith, tests .table-right))) at o));
           read = λ i h f r. true≢false (sym (rw (all-free i (omega (arith, tests .table-right))) at f));

@@ -10,18 +10,17 @@ use Rattle.terms.specs.Sets.{xorTo}
 use Rattle.terms.proofs.Sets.{xorTo-cong}
 use Rattle.block.proofs.Sums.{others, sum-reorder}
 use Rattle.geometry.proofs.Placing.{one-position}
-use Rattle.geometry.specs.Placement.{cardAt, positionOf}
 use Rattle.geometry.specs.Placing.{Placing}
 use Rattle.parity.specs.Parity.{byteAt, parityByte}
 
-module _ (N S B : ℕ) (placing : Placing N (cardAt N) (positionOf N)) (image : List ℕ) (s b : ℕ) where
+module _ (N S B : ℕ) {card position : ℕ → ℕ → ℕ} (placing : Placing N card position) (image : List ℕ) (s b : ℕ) where
   -- byte b of each position
   abbrev cells : ℕ → ℕ
-  cells p = byteAt S B image (cardAt N s p) s b
+  cells p = byteAt S B image (card s p) s b
 
-  over-positions : (f : ℕ → ℕ) → xorTo N (λ p. f (cardAt N s p)) ≡ xorTo N f
+  over-positions : (f : ℕ → ℕ) → xorTo N (λ p. f (card s p)) ≡ xorTo N f
   over-positions f =
-      sum-reorder N (cardAt N s) (positionOf N s) (λ p h. placing .card-below s p) (λ c h. placing .position-below s c)
+      sum-reorder N (card s) (position s) (λ p h. placing .card-below s p h) (λ c h. placing .position-below s c h)
       (λ p h. placing .position-card s p h) (λ c h. placing .card-position s c h) f
 
   -- of all cards
@@ -30,11 +29,11 @@ module _ (N S B : ℕ) (placing : Placing N (cardAt N) (positionOf N)) (image : 
   parity-sum = sym (over-positions (λ c. byteAt S B image c s b))
 
   -- of all but one
-  pub rest-sum : (u : ℕ) → u < N → xorTo N (λ d. cond (eqb d (cardAt N s u)) 0 (byteAt S B image d s b)) ≡ xorTo N (others u cells)
+  pub rest-sum : (u : ℕ) → u < N → xorTo N (λ d. cond (eqb d (card s u)) 0 (byteAt S B image d s b)) ≡ xorTo N (others u cells)
   rest-sum u hu =
-      sym (over-positions (λ d. cond (eqb d (cardAt N s u)) 0 (byteAt S B image d s b)))
+      sym (over-positions (λ d. cond (eqb d (card s u)) 0 (byteAt S B image d s b)))
       ∙ xorTo-cong N _ _ (λ p h. ap (λ (t : Bool). cond t 0 (cells p)) (same p h (eqb p u) refl))
     where
-      same : (p : ℕ) → p < N → (t : Bool) → eqb p u ≡ t → eqb (cardAt N s p) (cardAt N s u) ≡ eqb p u
-      same p h true e = eq-eqb (cardAt N s p) (cardAt N s u) (ap (cardAt N s) (eqb-true p u e)) ∙ sym e
-      same p h false e = ne-eqb (cardAt N s p) (cardAt N s u) (λ f. eqb-false p u e (one-position placing s p u h hu f)) ∙ sym e
+      same : (p : ℕ) → p < N → (t : Bool) → eqb p u ≡ t → eqb (card s p) (card s u) ≡ eqb p u
+      same p h true e = eq-eqb (card s p) (card s u) (ap (card s) (eqb-true p u e)) ∙ sym e
+      same p h false e = ne-eqb (card s p) (card s u) (λ f. eqb-false p u e (one-position placing s p u h hu f)) ∙ sym e

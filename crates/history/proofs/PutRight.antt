@@ -16,9 +16,9 @@ use Rattle.terms.specs.Lists.{put}
 use Rattle.terms.specs.Sets.{xorTo}
 use Rattle.block.proofs.Sums.{others}
 use Rattle.geometry.proofs.Bounds.{Bounds}
-use Rattle.geometry.proofs.Placing.{missingAt-is, out-position, out-card}
+use Rattle.geometry.proofs.Placing.{placed-in, missingAt-is, out-position, out-card}
 use Rattle.geometry.specs.Limits.{none, geometryOf, beyondState}
-use Rattle.geometry.specs.Placement.{cardAt, positionOf, Missing, outIn}
+use Rattle.geometry.specs.Placement.{cardOfPosition, positionOfCard, Missing, outIn}
 use Rattle.geometry.specs.Placing.{Placing}
 use Rattle.geometry.specs.Store.{cellAt}
 use Rattle.geometry.specs.declared.Geometry.{Geometry}
@@ -34,10 +34,9 @@ use Rattle.stripe.specs.Invariant.{Idle}
 use Rattle.history.specs.Account.{Account}
 use Rattle.history.specs.Row.{restOf}
 use Rattle.history.specs.World.{World, recordAt}
-use Rattle.history.proofs.Carried.{GoesOn, RestsAnew, carried-sure, same-cells}
+use Rattle.history.proofs.Carried.{marks, GoesOn, RestsAnew, carried-sure, same-cells}
 use Rattle.history.proofs.Facts.{bounds}
 use Rattle.history.proofs.Invariant.{Sure, Resting, cellsOf}
-use Rattle.history.proofs.Placed.{layout}
 use Rattle.history.proofs.ReadOff.{rest-byte, rest-size}
 use Rattle.history.proofs.Rows.{rowOf}
 
@@ -65,18 +64,18 @@ module _ (w : World) (a : Account) (sure : Sure w a) (c t : ℕ) (ht : t < w .st
   some-unit : 1 < N
   some-unit = omega (arith, limits .cards-low)
 
-  placing : Placing N (cardAt N) (positionOf N)
-  placing = layout N (omega (arith, limits .cards-low))
+  placing : Placing N (cardOfPosition st) (positionOfCard st)
+  placing = placed-in st (omega (arith, limits .cards-low))
 
   -- the missing position is the card's
-  x-is : x ≡ positionOf N t c
+  x-is : x ≡ positionOfCard st t c
   x-is = rw (← missing .is-out) (missingAt-is N t c (missing .is-card))
 
   x-below : x < N
-  x-below = rw x-is (placing .position-below t c)
+  x-below = rw x-is (placing .position-below t c (missing .is-card))
 
-  on-card : cardAt N t x ≡ c
-  on-card = out-card st placing t (outIn st t) x x-below refl ∙ sym (missing .is-out)
+  on-card : cardOfPosition st t x ≡ c
+  on-card = out-card st placing t x x-below (outIn st t) refl ∙ sym (missing .is-out)
 
   size : length (restOf st (w .image) c t) ≡ st .block
   size = rest-size st (w .image) some-unit placing (sure .right .image-right) c t
@@ -102,8 +101,8 @@ module _ (w : World) (a : Account) (sure : Sure w a) (c t : ℕ) (ht : t < w .st
     there : (p : ℕ) → p ≤ n → ¬ (p ≡ x) → cellsOf st (filled w c t) t b p ≡ cells p
     there p l d =
         cell-put-other N (st .stripes) (st .block) (w .image) (sure .right .image-right) c t (missing .is-card) ht (restOf st (w .image) c t) size
-        (cardAt N t p) t b ht hb
-        (λ e f. d (out-position st placing t (outIn st t) p (omega (arith, some-unit)) (sym e ∙ missing .is-out)))
+        (cardOfPosition st t p) t b ht hb
+        (λ e f. d (out-position st placing t p (omega (arith, some-unit)) (outIn st t) (sym e ∙ missing .is-out)))
 
     filled-cells : (p : ℕ) → p ≤ n → cellsOf st (filled w c t) t b p ≡ changed cells x (sumTo bytes (suc n) (otherOnes bytes x cells)) p
     unfolding changed
@@ -131,11 +130,8 @@ module _ (w : World) (a : Account) (sure : Sure w a) (c t : ℕ) (ht : t < w .st
       rests-now =
           subst
           (λ (g : Geometry). (b : ℕ) → b < g .block
-          → Idle bytes (unitsOf (marks g)) (missingIn st′ t) (rowOf (marks g) (a .row) t b) (cellsOf (marks g) (filled w c t) t b))
+          → Idle bytes (unitsOf (marks g none 0)) (missingIn st′ t) (rowOf (marks g none 0) (a .row) t b) (cellsOf (marks g none 0) (filled w c t) t b))
           (sym same) (rests idle (missingIn st′ t))
-        where
-          marks : Geometry → State
-          marks g = record { cards = g .cards; stripes = g .stripes; block = g .block; records = g .records; out = none; lost = 0 }
 
       each : (s : ℕ) → s < st .stripes → GoesOn w a st′ (filled w c t) s ⊎ RestsAnew w a st′ (filled w c t) s
       each s hs = go (ℕ-discrete s t)
@@ -148,7 +144,7 @@ module _ (w : World) (a : Account) (sure : Sure w a) (c t : ℕ) (ht : t < w .st
                 same-cells = λ b p hb l m.
                     same-cells st st′ same (filled w c t) s b p
                     ∙ cell-put-other N (st .stripes) (st .block) (w .image) (sure .right .image-right) c t (missing .is-card) ht (restOf st (w .image) c t) size
-                    (cardAt N s p) s b hs hb (λ e f. d (sym f));
+                    (cardOfPosition st s p) s b hs hb (λ e f. d (sym f));
               })
 
       pub put-right-sure : (book : State)

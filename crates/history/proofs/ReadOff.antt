@@ -18,7 +18,7 @@ use Rattle.block.proofs.Sums.{changedTo, others, term-sum-zero}
 use Rattle.block.proofs.Xor.{xor-zero-eq}
 use Rattle.geometry.proofs.Apart.{cell-inside}
 use Rattle.geometry.proofs.Placing.{out-position, out-card}
-use Rattle.geometry.specs.Placement.{cardAt, positionOf, outIn, stripeOf, unitOf, cardOf}
+use Rattle.geometry.specs.Placement.{cardOfPosition, positionOfCard, cardOfBlock, outIn, stripeOf, unitOf}
 use Rattle.geometry.specs.Placing.{Placing}
 use Rattle.geometry.specs.Store.{cellAt, imageSize}
 use Rattle.geometry.specs.declared.State.{State}
@@ -28,12 +28,12 @@ use Rattle.stripe.proofs.Bytes.{bytes}
 use Rattle.stripe.specs.Invariant.{Idle}
 use Rattle.history.specs.Row.{blockAt, restOf, openedRow}
 use Rattle.history.proofs.Invariant.{cellsOf}
-use Rattle.history.proofs.Places.{block-stripe, block-unit, stripe-below}
+use Rattle.history.proofs.Places.{block-stripe, block-unit, unit-below, stripe-below}
 use Rattle.history.proofs.Positions.{parity-sum, rest-sum}
 use Rattle.history.proofs.Rows.{unitByte, rowOf, row-unit, row-parity, row-is-row}
 
 module _ (st : State) (image : List ℕ) (some-unit : 1 < st .cards)
-    (placing : Placing (st .cards) (cardAt (st .cards)) (positionOf (st .cards)))
+    (placing : Placing (st .cards) (cardOfPosition st) (positionOfCard st))
     (long : length image ≡ imageSize (st .cards) (st .stripes) (st .block)) where
   abbrev N : ℕ
   N = st .cards
@@ -49,7 +49,7 @@ module _ (st : State) (image : List ℕ) (some-unit : 1 < st .cards)
       length-part (cellAt (st .stripes) (st .block) c s) (st .block) image (omega (arith, long, cell-inside N (st .stripes) (st .block) c s hc hs))
 
   pub rest-byte : (s u b : ℕ) → u < N → b < st .block
-      → getD (restOf st image (cardAt N s u) s) b 0 ≡ xorTo N (others u (cellsOf st image s b))
+      → getD (restOf st image (cardOfPosition st s u) s) b 0 ≡ xorTo N (others u (cellsOf st image s b))
   unfolding restOf
   rest-byte s u b hu hb = getD-tabulate (st .block) _ b 0 hb ∙ rest-sum N (st .stripes) (st .block) placing image s b u hu
 
@@ -95,19 +95,19 @@ module _ (st : State) (image : List ℕ) (some-unit : 1 < st .cards)
     opened-unit : (u : ℕ) → u < unitsOf st → unitByte st (openedRow st image) s b u ≡ whole u
     unfolding openedRow
     opened-unit u hu =
-        rw (block-stripe N s u hu, block-unit N s u hu) (go (eqb (cardAt N s u) (outIn st s)) refl)
+        rw (block-stripe N s u hu, block-unit N s u hu) (go (eqb (cardOfPosition st s u) (outIn st s)) refl)
       where
         small : u < N
         small = omega arith
 
-        go : (t : Bool) → eqb (cardAt N s u) (outIn st s) ≡ t
-            → getD (cond t (restOf st image (cardAt N s u) s) (blockAt st image (cardAt N s u) s)) b 0 ≡ whole u
+        go : (t : Bool) → eqb (cardOfPosition st s u) (outIn st s) ≡ t
+            → getD (cond t (restOf st image (cardOfPosition st s u) s) (blockAt st image (cardOfPosition st s u) s)) b 0 ≡ whole u
         go true e =
-            let here = out-position st placing s (outIn st s) u small (eqb-true (cardAt N s u) (outIn st s) e) in
+            let here = out-position st placing s u small (outIn st s) (eqb-true (cardOfPosition st s u) (outIn st s) e) in
             rest-byte s u b small hb ∙ ap (λ (v : ℕ). xorTo N (others v cells)) here ∙ sym (rw (eq-eqb u x here))
         go false e =
-            block-byte (cardAt N s u) s b hb
-            ∙ sym (whole-there u (λ f. eqb-false (cardAt N s u) (outIn st s) e (out-card st placing s (outIn st s) u small f)))
+            block-byte (cardOfPosition st s u) s b hb
+            ∙ sym (whole-there u (λ f. eqb-false (cardOfPosition st s u) (outIn st s) e (out-card st placing s u small (outIn st s) f)))
 
     pub opened-rests : (N ≤ x → parityByte N (st .stripes) (st .block) image s b ≡ 0)
         → Idle bytes (unitsOf st) x (rowOf st (openedRow st image) s b) cells
@@ -132,8 +132,8 @@ module _ (st : State) (image : List ℕ) (some-unit : 1 < st .cards)
 
   pub opened-size : (L : ℕ) → L < unitsOf st * st .stripes → length (openedRow st image L) ≡ st .block
   unfolding openedRow
-  opened-size L h = go (eqb (cardOf N L) (outIn st (stripeOf N L)))
+  opened-size L h = go (eqb (cardOfBlock st L) (outIn st (stripeOf N L)))
     where
-      go : (t : Bool) → length (cond t (restOf st image (cardOf N L) (stripeOf N L)) (blockAt st image (cardOf N L) (stripeOf N L))) ≡ st .block
-      go true = rest-size (cardOf N L) (stripeOf N L)
-      go false = block-size (cardOf N L) (stripeOf N L) (placing .card-below (stripeOf N L) (unitOf N L)) (stripe-below N L (st .stripes) h)
+      go : (t : Bool) → length (cond t (restOf st image (cardOfBlock st L) (stripeOf N L)) (blockAt st image (cardOfBlock st L) (stripeOf N L))) ≡ st .block
+      go true = rest-size (cardOfBlock st L) (stripeOf N L)
+      go false = block-size (cardOfBlock st L) (stripeOf N L) (placing .card-below (stripeOf N L) (unitOf N L) (omega (arith, unit-below N L (st .stripes) h))) (stripe-below N L (st .stripes) h)

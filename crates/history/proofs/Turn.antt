@@ -15,7 +15,7 @@ use Rattle.terms.proofs.Lists.{part-cong}
 use Rattle.terms.proofs.Rows.{truth}
 use Rattle.geometry.proofs.Apart.{read-inside}
 use Rattle.geometry.proofs.Bounds.{Bounds}
-use Rattle.geometry.specs.Placement.{cardAt, blockOf}
+use Rattle.geometry.specs.Placement.{cardOfPosition, blockOf}
 use Rattle.geometry.specs.Store.{readAt}
 use Rattle.parity.specs.Parity.{byteAt}
 use Rattle.record.specs.Life.{free, isOpen, isFinished, isWrite, unitsOf, missingIn}
@@ -147,7 +147,7 @@ module _ (w : World) (a : Account) (sure : Sure w a) (i s : ℕ) (r′ : Record)
   resting-there t d h free-now b hb =
       rw (row-there t b d h)
       (heart bytes (unitsOf (w .state)) .decayed-idle (missingIn (w .state) t) _ _ _
-      (λ p l m. turn .cell-others (cardAt (w .state .cards) t p) t b d h hb)
+      (λ p l m. turn .cell-others (cardOfPosition (w .state) t p) t b d h hb)
       (sure .resting t h (not-held t d free-now) b hb))
 
   -- nobody holds s now: record i does not
@@ -195,7 +195,7 @@ module _ (w : World) (a : Account) (sure : Sure w a) (i s : ℕ) (r′ : Record)
               (faithful-near bytes (unitsOf (w .state)) (missingIn (w .state) t) (requestOf (w .state) (recordAt w j)) _ _ _ _
               (two-below (unitsOf (w .state)) (missingIn (w .state) t) (requestOf (w .state) (recordAt w j)) (sure .working j h o .proper))
               (record {
-                same-cell = λ p l m. turn .cell-others (cardAt (w .state .cards) t p) t b off ht hb;
+                same-cell = λ p l m. turn .cell-others (cardOfPosition (w .state) t p) t b off ht hb;
                 same-got = λ p l. turn .got-others j p b d (position-below p l) hb;
                 same-new = λ p l. turn .new-others j p b d (position-below p l) hb;
               })

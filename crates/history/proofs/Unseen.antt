@@ -7,6 +7,7 @@ use mathlib.Core.Path.{_≡_, ap}
 use native.Mathlib.Omega.{arith}
 use lib.Dec.{eqb, ltb}
 use Rattle.terms.proofs.Sets.{xorTo-cong, lowest-cong}
+use Rattle.geometry.proofs.Missing.{none-missing}
 use Rattle.geometry.specs.Placement.{outIn}
 use Rattle.geometry.specs.Store.{imageWrong, imageSize}
 use Rattle.geometry.specs.declared.State.{State}
@@ -38,7 +39,7 @@ module _ (st : State) (image image′ : List ℕ) (same : Decayed st image image
   module _ (none-out : (s : ℕ) → ¬ (outIn st s < st .cards)) where
     byte-same : (c s b : ℕ) → c < st .cards → s < st .stripes → b < st .block
         → byteAt (st .stripes) (st .block) image′ c s b ≡ byteAt (st .stripes) (st .block) image c s b
-    byte-same c s b hc hs hb = same .same-bytes c s b hc hs hb (λ m. let l = m .is-card in let e = m .is-out in none-out s (omega arith))
+    byte-same c s b hc hs hb = same .same-bytes c s b hc hs hb (none-missing st c s (let h = none-out s in omega arith))
 
     parity-same : (s b : ℕ) → s < st .stripes → b < st .block
         → parityByte (st .cards) (st .stripes) (st .block) image′ s b ≡ parityByte (st .cards) (st .stripes) (st .block) image s b

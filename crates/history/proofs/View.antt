@@ -10,7 +10,7 @@ use lib.Bits.{bitXor}
 use lib.Dec.{eqb}
 use Rattle.terms.specs.Sets.{xorTo}
 use Rattle.geometry.proofs.Placing.{one-position}
-use Rattle.geometry.specs.Placement.{cardAt}
+use Rattle.geometry.specs.Placement.{cardOfPosition}
 use Rattle.geometry.specs.declared.State.{State}
 use Rattle.graph.specs.Steps.{Step, rd, xr, wr, nil}
 use Rattle.graph.specs.Sums.{sumsToRead}
@@ -70,7 +70,7 @@ module _ (st : State) (work image : List ℕ) (i : ℕ) (r : Record) (at : Stand
       record {
         same-cell = λ q l d. at-place (before .cell) (seen (wr p) .cell) p (before .new p) q
             (λ e. rw e (write-cell st work image i r at p b hp hb))
-            (λ d. write-cell-other st work image i r at p (cardAt (st .cards) (r .stripe) q) (r .stripe) b hp (at .stripe-below) hb
+            (λ d. write-cell-other st work image i r at p (cardOfPosition st (r .stripe) q) (r .stripe) b hp (at .stripe-below) hb
             (λ f g. d (sym (one-position (at .placing) (r .stripe) p q hp (small q l) f))));
         same-got = λ q l. unfold workAfter in refl;
         same-new = λ q l. unfold workAfter in refl;

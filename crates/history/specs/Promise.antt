@@ -10,7 +10,7 @@ use lib.ListN.{length, drop}
 use Rattle.terms.specs.Lists.{part}
 use Rattle.terms.specs.Reply.{accepted}
 use Rattle.geometry.specs.Limits.{none}
-use Rattle.geometry.specs.Placement.{stripeOf, cardOf, cardAt, Missing}
+use Rattle.geometry.specs.Placement.{stripeOf, cardOfBlock, cardOfPosition, Missing}
 use Rattle.geometry.specs.Store.{readAt}
 use Rattle.geometry.specs.declared.State.{State}
 use Rattle.record.specs.Life.{isWrite, unitsOf}
@@ -56,11 +56,11 @@ abbrev pub stripeFor : Account → ℕ → ℕ
 stripeFor a L = stripeOf (a .state .cards) L
 
 abbrev pub cardFor : Account → ℕ → ℕ
-cardFor a L = cardOf (a .state .cards) L
+cardFor a L = cardOfBlock (a .state) L
 
 -- the card of stripe s's parity
 abbrev pub parityFor : Account → ℕ → ℕ
-parityFor a s = cardAt (a .state .cards) s (unitsOf (a .state))
+parityFor a s = cardOfPosition (a .state) s (unitsOf (a .state))
 
 -- ---- what is promised of the world
 

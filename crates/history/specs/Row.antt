@@ -8,7 +8,7 @@ use lib.Dec.{eqb}
 use lib.ListN.{getD}
 use Rattle.terms.specs.Lists.{tabulate, part}
 use Rattle.terms.specs.Sets.{bit, xorTo}
-use Rattle.geometry.specs.Placement.{stripeOf, unitOf, cardOf, blockOf, outIn}
+use Rattle.geometry.specs.Placement.{stripeOf, unitOf, cardOfBlock, blockOf, outIn}
 use Rattle.geometry.specs.Store.{cellAt}
 use Rattle.geometry.specs.declared.State.{State}
 use Rattle.parity.specs.Parity.{byteAt}
@@ -29,7 +29,7 @@ restOf st image c s =
 unfoldable pub openedRow : State → List ℕ → ℕ → List ℕ
 openedRow st image L =
     let s = stripeOf (st .cards) L in
-    let c = cardOf (st .cards) L in
+    let c = cardOfBlock st L in
     cond (eqb c (outIn st s)) (restOf st image c s) (blockAt st image c s)
 
 -- the units of a mask among n, ascending, one behind the other

@@ -75,7 +75,7 @@ module _ (N S s : ℕ) (legal : beyondPlaces N S ≡ false) (below : s < S) wher
       block : eqb (positionOf N s c) (N - 1) ≡ false → length (shown N s c) ≤ 4
       block t =
           let b = places-bounds N S legal in
-          rw t (decimal-length (blockOf N s (positionOf N s c)) 3 (omega (arith, placed N (omega arith) .position-below s c, blocks-few N S legal s (omega arith))))
+          rw t (decimal-length (blockOf N s (positionOf N s c)) 3 (omega (arith, placed N (omega arith) .position-below s c less, blocks-few N S legal s (omega arith))))
 
   -- k cards take at most five bytes each
   pub cards-size : (k : ℕ) → k ≤ N → length (cardsText N s k) ≤ 5 * k

@@ -63,7 +63,7 @@ add-number c =
     let a = three .before .before .before .before .args in
     let l = few three in
     let some : 0 < a .self .cards = lt-of-le-of-lt zero-le (three .before .if2 .left) in
-    let p = placed (a .self .cards) some .position-below (a .stripe) (a .card) in
+    let p = placed (a .self .cards) some .position-below (a .stripe) (a .card) (three .before .if2 .left) in
     let b = places-bounds _ _ (within (three .before .before)) in
     record { fits = omega (arith, position (c .before), b .cards-high) }
 
