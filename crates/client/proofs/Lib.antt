@@ -1,0 +1,5 @@
+-- Why a run of what the contracts allow is a history, and so keeps the promise.
+pub mod Plays
+pub mod Runs
+pub mod Kept
+pub mod Cited

@@ -1,0 +1,38 @@
+-- Runs: what a client sees who opens an array and makes calls, where all that is known of them is what their contracts say.
+-- Assumes nothing.
+use Prim.Native.Nat.{ℕ}
+use mathlib.Core.List.{List}
+use mathlib.Core.Path.{_≡_}
+use Rattle.geometry.specs.declared.Geometry.{Geometry}
+use Rattle.record.specs.declared.Record.{Record}
+use Rattle.array.specs.Opening.{Opening}
+use Rattle.history.specs.Account.{Account, noted}
+use Rattle.history.specs.History.{Possible, openedAccount}
+use Rattle.history.specs.World.{World, Event, Outcome, Engine}
+use Rattle.client.specs.Lent.{OpenedByCall, ByCalls}
+use Rattle.client.specs.Packed.{OpenedByFunction, ByFunctions}
+
+-- what a set of functions may do: how an opening may come out, and how an event may come out in a world
+pub record Contracts : Type 1 where
+  pub opens : Geometry → ℕ → List Record → List ℕ → List ℕ → Opening → Type 0
+  pub allows : World → Event → Outcome → Type 0
+
+-- the calls that are lent the table (crates/calls), and the C functions (crates/recorder)
+abbrev pub calls : Contracts
+calls = record { opens = OpenedByCall; allows = ByCalls }
+
+abbrev pub functions : Contracts
+functions = record { opens = OpenedByFunction; allows = ByFunctions }
+
+-- an accepted opening, then events, each with any outcome that is allowed; the world that is left goes on to the next, and the account is kept
+-- by what is answered
+pub data Run (by : Contracts) : World → Account → Type 0 where
+  opened : (g : Geometry) (out : ℕ) (table : List Record) (work image : List ℕ) (o : Opening)
+      → by .opens g out table work image o → o .reply .number ≡ 0
+      → Run by (record { state = o .state; table = o .table; work = work; image = image }) (openedAccount g out table work image)
+  next : {w : World} {a : Account} → Run by w a → (e : Event) → Possible w e → (o : Outcome) → by .allows w e o
+      → Run by (o .world) (noted (λ v d. o) w a e)
+
+-- an engine that meets the contracts: each of its outcomes is one that they allow
+unfoldable pub Meets : Contracts → Engine → Type 0
+Meets by engine = (w : World) (e : Event) → by .allows w e (engine w e)
