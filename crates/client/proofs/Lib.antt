@@ -3,3 +3,4 @@ pub mod Plays
 pub mod Runs
 pub mod Kept
 pub mod Cited
+pub mod Idle
