@@ -28,8 +28,7 @@ use Rattle.stripe.specs.Blocks.{changed}
 use Rattle.stripe.specs.Invariant.{Proper, Faithful}
 use Rattle.stripe.specs.Request.{Request, begun}
 use Rattle.history.specs.Account.{Account, Entry, requested}
-use Rattle.history.specs.Promise.{recordAt}
-use Rattle.history.specs.World.{World}
+use Rattle.history.specs.World.{World, recordAt}
 use Rattle.history.proofs.Facts.{bounds}
 use Rattle.history.proofs.Invariant.{Matches, Working, Sure, viewOf}
 use Rattle.history.proofs.Records.{admitted-fit, request-begun, mask-some, mask-units}
@@ -140,10 +139,7 @@ module _ (w : World) (a : Account) (sure : Sure w a) (write : Bool) (s mask : �
   unfolding admitted requested
   matches-made =
       record {
-        same-kind = kind write;
-        same-stripe = refl;
-        same-mask = refl;
-        same-count = refl;
+        agree = record { same-phase = refl; same-kind = kind write; same-stripe = refl; same-mask = refl; same-count = refl };
         paid = paid;
         nothing-due = λ e. refl;
       }
@@ -169,12 +165,12 @@ module _ (w : World) (a : Account) (sure : Sure w a) (write : Bool) (s mask : �
         alone = λ j h d o e.
             holds-elim s (recordAt w j) (held-elim (w .table) s (ok .not-held) j (omega (arith, sure .right .table-right))) o (sym e);
         own-sound = fit-sound (w .state) made (admitted-fit (w .state) write s mask (ok .stripe-below) (ok .mask-legal));
-        own-entry = λ f. matches-made;
+        own-entry = matches-made;
         own-working = λ o. working-made;
         own-read = λ f g. true≢false (sym f);
         own-resting = λ h o. true≢false o;
       }
 
   pub admit-sure : Sure (record { state = w .state; table = set (w .table) place made; work = stored; image = w .image })
-      (record { row = a .row; entry = changed (a .entry) place entry })
+      (record { state = w .state; row = a .row; entry = changed (a .entry) place entry })
   admit-sure = turned w a sure place s made stored (w .image) (a .row) entry turn

@@ -1,4 +1,4 @@
--- Every event of two worlds that differ at most in the bytes of the card that is out: the same answer, and such worlds again.
+-- Every call of two worlds that differ at most in the bytes of missing blocks: the same answer, and such worlds again.
 -- Assumes nothing.
 use Prim.Native.Nat.{ℕ, _<_}
 use mathlib.Core.Bool.{Bool, true, false, cond}
@@ -26,8 +26,7 @@ use Rattle.array.specs.Stepping.{Stepping, meetsOut, accepting, stepping}
 use Rattle.stripe.proofs.Readied.{readied}
 use Rattle.history.specs.Answers.{answerTo, Alike}
 use Rattle.history.specs.History.{Decayed}
-use Rattle.history.specs.Promise.{recordAt}
-use Rattle.history.specs.World.{World, Event, admit, step, report, collect, scan, decay, play}
+use Rattle.history.specs.World.{World, Event, admit, step, report, collect, scan, play, recordAt}
 use Rattle.history.proofs.Calls.{work-same, image-same}
 use Rattle.history.proofs.Facts.{bounds, open-fits}
 use Rattle.history.proofs.Placed.{layout}
@@ -85,10 +84,6 @@ module _ (w : World) (image′ : List ℕ) (same : Decayed (w .state) (w .image)
     rw (scan-same (w .state) (w .image) image′ same (w .table)),
     record { same-state = refl; same-table = refl; same-work = refl; same-image = same },
   )
-
-  decay-both : (image : List ℕ) → Both (decay image)
-  unfolding play
-  decay-both image = (refl, record { same-state = refl; same-table = refl; same-work = refl; same-image = decayed-refl (w .state) image })
 
   -- with none out, images that agree on the cards that work agree on all, so also on those that work when one goes out
   out-same : (c : ℕ) → reportRefusal (w .state) c ≡ 0 → w .state .out ≡ none → Decayed (withOut (w .state) c) (w .image) image′
@@ -209,4 +204,3 @@ module _ (w : World) (image′ : List ℕ) (same : Decayed (w .state) (w .image)
   both (report c) = report-both c
   both (collect i result) = collect-both i result
   both scan = scan-both
-  both (decay image) = decay-both image

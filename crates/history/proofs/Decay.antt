@@ -5,20 +5,34 @@ use mathlib.Core.Bool.{true}
 use mathlib.Core.List.{List}
 use mathlib.Core.Path.{_≡_, _∙_}
 use native.Mathlib.Omega.{arith}
+use lib.ListN.{length}
+use Rattle.terms.specs.Lists.{put}
 use Rattle.geometry.proofs.Bounds.{Bounds}
 use Rattle.geometry.specs.Placement.{cardAt, outIn}
+use Rattle.geometry.specs.Store.{imageSize, cellAt}
 use Rattle.geometry.specs.declared.State.{State}
 use Rattle.record.specs.Life.{isOpen, unitsOf, missingIn}
+use Rattle.array.proofs.Frames.{cell-put-length, cell-put-other}
 use Rattle.stripe.proofs.Bytes.{bytes}
 use Rattle.stripe.proofs.Heart.{heart}
 use Rattle.history.specs.Account.{Account}
-use Rattle.history.specs.History.{Decayed}
-use Rattle.history.specs.Promise.{recordAt}
-use Rattle.history.specs.World.{World}
+use Rattle.history.specs.History.{Missing, Decayed}
+use Rattle.history.specs.World.{World, recordAt}
 use Rattle.history.proofs.Facts.{bounds, open-fits}
 use Rattle.history.proofs.Invariant.{Working, Sure, cellsOf}
 use Rattle.history.proofs.Placed.{layout}
 use Rattle.history.proofs.Places.{out-position}
+
+-- a missing block may turn to any block
+pub block-decays : (st : State) (image : List ℕ) → length image ≡ imageSize (st .cards) (st .stripes) (st .block) → (c s : ℕ) → c < st .cards
+    → s < st .stripes → Missing st c s → (block : List ℕ) → length block ≡ st .block
+    → Decayed st image (put (cellAt (st .stripes) (st .block) c s) block image)
+block-decays st image long c s hc hs missing block size =
+    record {
+      same-length = cell-put-length (st .cards) (st .stripes) (st .block) image long c s hc hs block size;
+      same-bytes = λ d t b hd ht hb works.
+          cell-put-other (st .cards) (st .stripes) (st .block) image long c s hc hs block size d t b ht hb (λ e f. works (rw (← e, ← f) missing));
+    }
 
 module _ (w : World) (a : Account) (sure : Sure w a) (image′ : List ℕ) (decayed : Decayed (w .state) (w .image) image′) where
   abbrev st : State

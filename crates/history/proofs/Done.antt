@@ -31,9 +31,9 @@ use Rattle.stripe.specs.Blocks.{changed}
 use Rattle.stripe.specs.Invariant.{Proper, Faithful}
 use Rattle.stripe.specs.Request.{Request, advanced}
 use Rattle.history.specs.Account.{Account, Entry, counted}
-use Rattle.history.specs.Promise.{recordAt, blocksRead}
+use Rattle.history.specs.Promise.{blocksRead}
 use Rattle.history.specs.Row.{unitsOfRow}
-use Rattle.history.specs.World.{World}
+use Rattle.history.specs.World.{World, recordAt}
 use Rattle.history.proofs.Gather.{gathered-cong}
 use Rattle.history.proofs.Invariant.{Matches, Working, Resting, Sure, requestOf, viewOf}
 use Rattle.history.proofs.Placed.{layout}
@@ -122,9 +122,9 @@ module _ (w : World) (a : Account) (sure : Sure w a) (i k : ℕ) (ok : Ready (w 
   sound-done : Fit st done
   sound-done = stepped-fit st r k x (fits w a sure i k ok) proper
 
-  matches-done : (t : Bool) → Matches st done (counted st (a .row) e t)
+  matches-done : (t : Bool) → last ≡ t → Matches st done (counted st (a .row) e t)
   unfolding stepped
-  matches-done t = counted-matches w a sure i k ok done t refl refl refl refl
+  matches-done t f = counted-matches w a sure i k ok done t (rw f) refl refl refl refl
 
   -- ---- while a step is wanting the record works on
 
@@ -167,7 +167,7 @@ module _ (w : World) (a : Account) (sure : Sure w a) (i k : ℕ) (ok : Ready (w 
     units-read : isWrite done ≡ false → blocksRead st work′ i (done .mask) ≡ counted st (a .row) e true .due
     unfolding stepped counted blocksRead unitsOfRow
     units-read reading =
-        rw (sym (matches w a sure i k ok .same-kind) ∙ reading, ← matches w a sure i k ok .same-mask, ← matches w a sure i k ok .same-stripe)
+        rw (sym (matches w a sure i k ok .agree .same-kind) ∙ reading, ← matches w a sure i k ok .agree .same-mask, ← matches w a sure i k ok .agree .same-stripe)
         (gathered-cong (r .mask) n _ _ (unit-read reading))
 
   -- ---- the turn, the last one or not
@@ -188,7 +188,7 @@ module _ (w : World) (a : Account) (sure : Sure w a) (i k : ℕ) (ok : Ready (w 
   rowNow t = cond t (afterRow st (a .row) e) (a .row)
 
   row-others : (t : Bool) (s u : ℕ) → ¬ (r .stripe ≡ s) → u < n → rowNow t (blockOf (st .cards) s u) ≡ a .row (blockOf (st .cards) s u)
-  row-others true s u d l = after-elsewhere st (a .row) e s u (λ f. d (matches w a sure i k ok .same-stripe ∙ f)) l
+  row-others true s u d l = after-elsewhere st (a .row) e s u (λ f. d (matches w a sure i k ok .agree .same-stripe ∙ f)) l
   row-others false s u d l = refl
 
   row-size : (t : Bool) (L : ℕ) → L < n * st .stripes → length (rowNow t L) ≡ st .block
@@ -223,12 +223,12 @@ module _ (w : World) (a : Account) (sure : Sure w a) (i k : ℕ) (ok : Ready (w 
         new-here = λ o. refl;
         alone = no-other w a sure i k ok;
         own-sound = fit-sound st done sound-done;
-        own-entry = λ g. matches-done t;
+        own-entry = matches-done t f;
         own-working = own-working t f;
         own-read = own-read t f;
         own-resting = λ h o. own-resting t f o;
       }
 
   pub done-sure : (t : Bool) → last ≡ t → Sure (record { state = st; table = set (w .table) i done; work = work′; image = image′ })
-      (record { row = rowNow t; entry = changed (a .entry) i (counted st (a .row) e t) })
+      (record { state = st; row = rowNow t; entry = changed (a .entry) i (counted st (a .row) e t) })
   done-sure t f = turned w a sure i (r .stripe) done work′ image′ (rowNow t) (counted st (a .row) e t) (turn t f)

@@ -9,10 +9,11 @@ use Rattle.record.specs.declared.Record.{Record}
 use Rattle.array.specs.Opening.{opening}
 use Rattle.array.specs.Refusals.{opened as openedState}
 use Rattle.history.specs.Account.{Account}
-use Rattle.history.specs.Answers.{Answer, answerTo, ifCall, startOf, callsOf, answersOf, ran, answered, Alike}
-use Rattle.history.specs.History.{Decayed, Possible, History, opened, next}
-use Rattle.history.specs.World.{World, Event, admit, step, report, collect, scan, decay, play}
+use Rattle.history.specs.Answers.{Answer, answerTo, startOf, callsOf, answersOf, ran, answered, Alike}
+use Rattle.history.specs.History.{Decayed, History, opened, next, decayed}
+use Rattle.history.specs.World.{World, Event, play}
 use Rattle.history.proofs.Alikes.{decayed-refl, decayed-trans, decayed-sym, both}
+use Rattle.history.proofs.Books.{state-kept}
 use Rattle.history.proofs.Scans.{open-same}
 
 -- ---- alike is an equivalence
@@ -41,9 +42,9 @@ alike-sym {u} {v} p =
           subst (λ (st : State). Decayed st (v .image) (u .image)) (sym (p .same-state)) (decayed-sym (u .state) (u .image) (v .image) (p .same-image));
     }
 
--- ---- one event
+-- ---- one call
 
--- what comes of an event in two worlds that are alike
+-- what comes of a call in two worlds that are alike
 pub record Unseen (w v : World) (e : Event) : Type 0 where
   pub same-answer : answerTo v e ≡ answerTo w e
   pub alike-after : Alike (play w e .world) (play v e .world)
@@ -72,38 +73,20 @@ answered-same p (e ∷ es) = ap₂ {C = List Answer} (λ a rest. a ∷ rest) (un
 
 -- ---- a history, and its calls alone
 
--- one more event: a call is one more of the calls, and a decay is none
-module _ {w : World} (start : World) (es : List Event) (p : Alike (ran start es) w) where
-  more-ran : (e : Event) → Possible w e → Alike (ran start (ifCall e e es)) (play w e .world)
-  unfolding ifCall ran
-  more-ran (admit write s mask payload) q = unseen p (admit write s mask payload) .alike-after
-  more-ran (step i k) q = unseen p (step i k) .alike-after
-  more-ran (report c) q = unseen p (report c) .alike-after
-  more-ran (collect i result) q = unseen p (collect i result) .alike-after
-  more-ran scan q = unseen p scan .alike-after
-  more-ran (decay image) q =
-      alike-trans p (unfold play Possible in record { same-state = refl; same-table = refl; same-work = refl; same-image = q })
-
-  more-answers : (e : Event) (all : List Answer) → all ≡ answered start es → ifCall e (answerTo w e) all ≡ answered start (ifCall e e es)
-  unfolding ifCall answered
-  more-answers (admit write s mask payload) all o = rw (o, unseen p (admit write s mask payload) .same-answer)
-  more-answers (step i k) all o = rw (o, unseen p (step i k) .same-answer)
-  more-answers (report c) all o = rw (o, unseen p (report c) .same-answer)
-  more-answers (collect i result) all o = rw (o, unseen p (collect i result) .same-answer)
-  more-answers scan all o = rw (o, unseen p scan .same-answer)
-  more-answers (decay image) all o = o
-
--- the world at the end is what the calls alone would have left, but for the bytes of the card that is out
+-- the world at the end is what the calls alone would have left, but for the bytes of missing blocks
 pub history-ran : {w : World} {a : Account} (h : History play w a) → Alike (ran (startOf h) (callsOf h)) w
-unfolding startOf callsOf
-history-ran (opened g out table work image ok) = unfold ran in alike-refl _
-history-ran (next h e p) = more-ran (startOf h) (callsOf h) (history-ran h) e p
+unfolding startOf callsOf ran
+history-ran (opened g out table work image ok) = alike-refl _
+history-ran (next h e) = unseen (history-ran h) e .alike-after
+history-ran (decayed h image d) =
+    alike-trans (history-ran h) (record { same-state = refl; same-table = refl; same-work = refl; same-image = rw (state-kept h) d })
 
 -- and every call was answered as it would have been
 pub history-answers : {w : World} {a : Account} (h : History play w a) → answersOf h ≡ answered (startOf h) (callsOf h)
-unfolding startOf callsOf answersOf
-history-answers (opened g out table work image ok) = unfold answered in refl
-history-answers (next h e p) = more-answers (startOf h) (callsOf h) (history-ran h) e (answersOf h) (history-answers h)
+unfolding startOf callsOf answersOf answered
+history-answers (opened g out table work image ok) = refl
+history-answers (next h e) = ap₂ {C = List Answer} (λ a rest. a ∷ rest) (unseen (history-ran h) e .same-answer) (history-answers h)
+history-answers (decayed h image d) = history-answers h
 
 -- ---- two histories
 

@@ -4,12 +4,13 @@
 use Prim.Native.Nat.{ℕ, _*_, _<_}
 use mathlib.Core.Bool.{true, false}
 use mathlib.Core.List.{List, []}
-use mathlib.Core.Path.{_≡_}
+use mathlib.Core.Path.{_≡_, refl, sym}
 use lib.ListN.{length}
+use Rattle.terms.proofs.Rows.{true≢false}
 use Rattle.geometry.specs.Placement.{cardAt}
 use Rattle.geometry.specs.declared.State.{State}
 use Rattle.parity.specs.Parity.{byteAt}
-use Rattle.record.specs.Life.{isFree, isOpen, isFinished, isWrite, unitsOf, chosenAt, missingIn}
+use Rattle.record.specs.Life.{free, isOpen, isFinished, isWrite, unitsOf, chosenAt, missingIn}
 use Rattle.record.specs.Sound.{held}
 use Rattle.record.specs.declared.Record.{Record}
 use Rattle.array.specs.Lent.{unitBytes}
@@ -18,9 +19,9 @@ use Rattle.array.proofs.Passed.{Right}
 use Rattle.stripe.specs.Blocks.{Blocks}
 use Rattle.stripe.specs.Invariant.{Proper, Idle, Faithful}
 use Rattle.stripe.specs.Request.{Request}
-use Rattle.history.specs.Account.{Account, Entry}
-use Rattle.history.specs.Promise.{recordAt, blocksRead}
-use Rattle.history.specs.World.{World}
+use Rattle.history.specs.Account.{Account, Entry, vacant}
+use Rattle.history.specs.Promise.{Agree, blocksRead}
+use Rattle.history.specs.World.{World, recordAt}
 use Rattle.stripe.proofs.Bytes.{bytes}
 use Rattle.history.proofs.Rows.{rowOf, afterRow}
 
@@ -42,14 +43,21 @@ viewOf st work image i s b =
       new = λ p. newByte (st .cards) (st .block) work i p b;
     }
 
--- the account's entry is of the record's request
+-- the account's entry is of the record's request, a write with its payload and nothing due
 pub record Matches (st : State) (r : Record) (e : Entry) : Type 0 where
-  pub same-kind : isWrite r ≡ e .write
-  pub same-stripe : r .stripe ≡ e .stripe
-  pub same-mask : r .mask ≡ e .mask
-  pub same-count : r .count ≡ e .steps
+  pub agree : Agree r e
   pub paid : e .write ≡ true → length (e .payload) ≡ unitBytes st (e .mask)
   pub nothing-due : e .write ≡ true → e .due ≡ []
+
+-- a free record and a vacant entry
+pub matches-vacant : (st : State) → Matches st free vacant
+unfolding vacant
+matches-vacant st =
+    record {
+      agree = record { same-phase = refl; same-kind = refl; same-stripe = refl; same-mask = refl; same-count = refl };
+      paid = λ e. true≢false (sym e);
+      nothing-due = λ e. refl;
+    }
 
 -- record r, number i, is open: its numbers are proper, and its stripe is faithful to the account at every byte
 pub record Working (st : State) (work image : List ℕ) (row : ℕ → List ℕ) (e : Entry) (i : ℕ) (r : Record) : Type 0 where
@@ -65,7 +73,7 @@ Resting st image row s = (b : ℕ) → b < st .block → Idle bytes (unitsOf st)
 pub record Sure (w : World) (a : Account) : Type 0 where
   pub right : Right (w .state) (w .table) (w .work) (w .image)
   pub row-size : (L : ℕ) → L < unitsOf (w .state) * w .state .stripes → length (a .row L) ≡ w .state .block
-  pub entries : (i : ℕ) → i < w .state .records → isFree (recordAt w i) ≡ false → Matches (w .state) (recordAt w i) (a .entry i)
+  pub entries : (i : ℕ) → i < w .state .records → Matches (w .state) (recordAt w i) (a .entry i)
   pub resting : (s : ℕ) → s < w .state .stripes → held (w .table) s ≡ false → Resting (w .state) (w .image) (a .row) s
   pub working : (i : ℕ) → i < w .state .records → isOpen (recordAt w i) ≡ true
       → Working (w .state) (w .work) (w .image) (a .row) (a .entry i) i (recordAt w i)

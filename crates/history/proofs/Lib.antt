@@ -23,9 +23,10 @@ pub mod Done
 pub mod Report
 pub mod Collect
 pub mod Decay
+pub mod Replies
+pub mod Books
 pub mod Events
 -- The promise follows
-pub mod Replies
 pub mod Stripes
 pub mod Promised
 -- Nothing depends on the bytes of the card that is out
@@ -37,9 +38,10 @@ pub mod Independent
 -- The theorems
 pub mod Demand3
 pub mod Finish
-pub mod Lost
 -- Shown by computation
 pub mod Compute
 pub mod Starred
+pub mod Runs
 pub mod Needed
 pub mod Impostors
+pub mod Cheats

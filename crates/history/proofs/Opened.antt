@@ -26,12 +26,11 @@ use Rattle.array.proofs.Passed.{passed, image-length, work-length, table-length
 use Rattle.array.specs.Lent.{tableWrong}
 use Rattle.array.specs.Opening.{opening}
 use Rattle.array.specs.Refusals.{opened, openRefusal}
-use Rattle.history.specs.Account.{Account, requested}
+use Rattle.history.specs.Account.{Account, vacant}
 use Rattle.history.specs.History.{openedWorld, openedAccount}
-use Rattle.history.specs.Promise.{recordAt}
 use Rattle.history.specs.Row.{openedRow}
-use Rattle.history.specs.World.{World}
-use Rattle.history.proofs.Invariant.{Sure}
+use Rattle.history.specs.World.{World, recordAt}
+use Rattle.history.proofs.Invariant.{Sure, matches-vacant}
 use Rattle.history.proofs.Parities.{right-elim}
 use Rattle.history.proofs.Placed.{layout}
 use Rattle.history.proofs.ReadOff.{opened-size, opened-rests}
@@ -100,7 +99,7 @@ module _ (g : Geometry) (out : ℕ) (table : List Record) (work image : List ℕ
     start = record { state = st; table = replicate (length table) free; work = work; image = image }
 
     abbrev first : Account
-    first = record { row = openedRow st image; entry = λ i. requested false 0 0 [] }
+    first = record { state = st; row = openedRow st image; entry = λ i. vacant }
 
     all-free : (i : ℕ) → i < length table → recordAt start i ≡ free
     all-free i h = getD-replicate (length table) i free free h
@@ -121,7 +120,7 @@ module _ (g : Geometry) (out : ℕ) (table : List Record) (work image : List ℕ
             whole = refl;
           };
           row-size = opened-size st image (omega (arith, bounds .cards-low)) (layout (g .cards) (omega (arith, bounds .cards-low))) (tests .image-right);
-          entries = λ i h f. true≢false (rw (all-free i (omega (arith, tests .table-right))) at f);
+          entries = λ i h. rw (all-free i (omega (arith, tests .table-right))) (matches-vacant st);
           resting = λ s h free-now b hb.
               opened-rests st image (omega (arith, bounds .cards-low)) (layout (g .cards) (omega (arith, bounds .cards-low))) (tests .image-right) s b hb
               (right-parity s b h hb);
@@ -129,6 +128,10 @@ module _ (g : Geometry) (out : ℕ) (table : List Record) (work image : List ℕ
           read = λ i h f r. true≢false (sym (rw (all-free i (omega (arith, tests .table-right))) at f));
         }
 
-    pub open-sure : Sure (openedWorld g out table work image) (openedAccount g out table work image)
+    pub open-sure : Sure (openedWorld g out table work image) (openedAccount g out image)
     unfolding openedWorld openedAccount opening
     open-sure = rw ok sure-start
+
+    pub open-state : openedWorld g out table work image .state ≡ opened g out
+    unfolding openedWorld opening
+    open-state = rw ok

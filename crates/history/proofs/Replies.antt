@@ -1,24 +1,26 @@
--- The number that a call answers is the number of its table of refusals: 0 exactly where it is accepted.
+-- What comes of a call, as laws: the number that it answers is that of its table of refusals, an accepted one answers and leaves what its row of
+-- document 01 says, and a refused one leaves the world.
 -- Assumes nothing.
 use Prim.Native.Nat.{ℕ}
 use mathlib.Core.Bool.{Bool, true, false, cond}
-use mathlib.Core.List.{List}
+use mathlib.Core.List.{List, []}
 use mathlib.Core.Path.{_≡_, refl, sym, _∙_}
 use borrow.Author.Tests.{eqb-true}
 use lib.Dec.{eqb}
-use Rattle.terms.specs.Reply.{Reply, refused}
-use Rattle.geometry.specs.Report.{reporting, reportRefusal}
+use lib.ListN.{set}
+use Rattle.terms.specs.Reply.{Reply, accepted, refused}
+use Rattle.geometry.specs.Report.{reporting, reportRefusal, marked}
 use Rattle.parity.specs.Parity.{disagreement}
-use Rattle.record.specs.Life.{missingIn, unitsOf}
-use Rattle.record.specs.Sound.{held}
-use Rattle.array.specs.Admission.{admission}
-use Rattle.array.specs.Collection.{collection, collecting}
+use Rattle.record.specs.Life.{free, isWrite, missingIn, unitsOf, admitted}
+use Rattle.record.specs.Sound.{held, lowestFree}
+use Rattle.array.proofs.Refused.{admit-refused, step-refused, collect-refused, report-refused}
+use Rattle.array.specs.Admission.{admission, keepUnits}
+use Rattle.array.specs.Collection.{collection, collecting, handOver}
 use Rattle.array.specs.Refusals.{admitRefusal, stepRefusal, collectRefusal, scanRefusal}
 use Rattle.array.specs.Scan.{scanReply}
 use Rattle.array.specs.Stepping.{Stepping, stepping, accepting, meetsOut}
 use Rattle.graph.specs.Steps.{stepOf}
-use Rattle.history.specs.Promise.{recordAt}
-use Rattle.history.specs.World.{World, admit, step, report, collect, scan, play}
+use Rattle.history.specs.World.{World, Event, admit, step, report, collect, scan, play, recordAt}
 
 -- accepted with some values, or refused by the number
 either : (number : ℕ) (yes-reply : Reply) (t : Bool) → eqb number 0 ≡ t → yes-reply .number ≡ 0 → cond t yes-reply (refused number) .number ≡ number
@@ -76,3 +78,62 @@ module _ (w : World) where
       go true e u f = sym (eqb-true number 0 e)
       go false e true f = sym (eqb-true number 13 f)
       go false e false f = refl
+
+  -- ---- an accepted call
+
+  pub admit-taken : (write : Bool) (s mask : ℕ) (payload : List ℕ) → admitRefusal (w .state) (w .table) (w .work) (w .image) write s mask payload ≡ 0
+      → play w (admit write s mask payload)
+      ≡ record {
+        reply = accepted (lowestFree (w .table)) 0;
+        world = record {
+          state = w .state;
+          table = set (w .table) (lowestFree (w .table)) (admitted (w .state) write s mask);
+          work = cond write (keepUnits (w .state) (lowestFree (w .table)) mask payload (w .work)) (w .work);
+          image = w .image;
+        };
+        result = [];
+      }
+  unfolding play admission
+  admit-taken write s mask payload e = rw e
+
+  pub step-taken : (i k : ℕ) → stepRefusal (w .state) (w .table) (w .work) (w .image) i k ≡ 0
+      → play w (step i k)
+      ≡ (let a = accepting (w .state) (w .table) (w .work) (w .image) i (recordAt w i) k in record {
+        reply = a .reply;
+        world = record { state = w .state; table = a .table; work = a .work; image = a .image };
+        result = [];
+      })
+  unfolding play stepping
+  step-taken i k e = rw e
+
+  pub report-taken : (c : ℕ) → reportRefusal (w .state) c ≡ 0
+      → play w (report c)
+      ≡ record {
+        reply = accepted 0 0;
+        world = record { state = marked (w .state) c; table = w .table; work = w .work; image = w .image };
+        result = [];
+      }
+  unfolding play reporting
+  report-taken c e = rw e
+
+  pub collect-taken : (i : ℕ) (result : List ℕ) → collectRefusal (w .state) (w .table) (w .work) i result ≡ 0
+      → play w (collect i result)
+      ≡ record {
+        reply = accepted (recordAt w i .count) 0;
+        world = record { state = w .state; table = set (w .table) i free; work = w .work; image = w .image };
+        result = cond (isWrite (recordAt w i)) result (handOver (w .state) i (recordAt w i .mask) (w .work) result);
+      }
+  unfolding play collection collecting
+  collect-taken i result e = rw e
+
+  -- ---- a refused call
+
+  pub refused-leaves : (e : Event) → ¬ (play w e .reply .number ≡ 0) → play w e .world ≡ w
+  unfolding play
+  refused-leaves (admit write s mask payload) d =
+      rw (admit-refused (w .state) (w .table) (w .work) (w .image) write s mask payload (λ z. d (admit-number write s mask payload ∙ z)))
+  refused-leaves (step i k) d = rw (step-refused (w .state) (w .table) (w .work) (w .image) i k (λ z. d (step-number i k ∙ z)))
+  refused-leaves (report c) d = rw (report-refused (w .state) c (λ z. d (report-number c ∙ z)))
+  refused-leaves (collect i result) d =
+      rw (collect-refused (w .state) (w .table) (w .work) (w .image) i result (λ z. d (collect-number i result ∙ z)))
+  refused-leaves scan d = refl

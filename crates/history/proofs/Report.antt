@@ -21,9 +21,9 @@ use Rattle.array.specs.Lent.{unitBytes}
 use Rattle.stripe.proofs.Bytes.{bytes}
 use Rattle.stripe.proofs.Heart.{numbers, heart}
 use Rattle.history.specs.Account.{Account, Entry}
-use Rattle.history.specs.Promise.{recordAt, blocksRead}
+use Rattle.history.specs.Promise.{blocksRead}
 use Rattle.history.specs.Row.{writtenRow, unitIn}
-use Rattle.history.specs.World.{World}
+use Rattle.history.specs.World.{World, recordAt}
 use Rattle.history.proofs.Facts.{bounds}
 use Rattle.history.proofs.Invariant.{Matches, Working, Sure}
 use Rattle.history.proofs.Rows.{rowOf, afterRow}
@@ -95,10 +95,7 @@ module _ (w : World) (a : Account) (sure : Sure w a) (c : ℕ) (none-out : w .st
   unfolding unitBytes
   matches-out r e m =
       record {
-        same-kind = m .same-kind;
-        same-stripe = m .same-stripe;
-        same-mask = m .same-mask;
-        same-count = m .same-count;
+        agree = m .agree;
         paid = m .paid;
         nothing-due = m .nothing-due;
       }
@@ -111,7 +108,8 @@ module _ (w : World) (a : Account) (sure : Sure w a) (c : ℕ) (none-out : w .st
         faithful = λ b hb. heart bytes (unitsOf st) .failed (missingIn st (r .stripe)) (missingIn out (r .stripe)) _ _ _ _ (m .faithful b hb) (none-missing (r .stripe));
       }
 
-  pub report-sure : Sure (record { state = out; table = w .table; work = w .work; image = w .image }) a
+  pub report-sure : Sure (record { state = out; table = w .table; work = w .work; image = w .image })
+      (record { state = out; row = a .row; entry = a .entry })
   unfolding rowOf blocksRead
   report-sure =
       record {
@@ -124,7 +122,7 @@ module _ (w : World) (a : Account) (sure : Sure w a) (c : ℕ) (none-out : w .st
           whole = sure .right .whole;
         };
         row-size = sure .row-size;
-        entries = λ i h f. matches-out (recordAt w i) (a .entry i) (sure .entries i h f);
+        entries = λ i h. matches-out (recordAt w i) (a .entry i) (sure .entries i h);
         resting = λ s h free-now b hb.
             heart bytes (unitsOf st) .failed-idle (missingIn st s) (missingIn out s) _ _ (sure .resting s h free-now b hb) (none-missing s);
         working = λ i h o. works-out i (recordAt w i) (sure .working i h o);

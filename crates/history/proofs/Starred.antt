@@ -12,9 +12,8 @@ use Rattle.terms.specs.Sets.{bit, allBelow}
 use Rattle.geometry.specs.Answers.{placeReply, blockAtReply}
 use Rattle.graph.specs.Choice.{choose}
 use Rattle.history.specs.Examples.{fill, opened, after}
-use Rattle.history.specs.Promise.{recordAt}
 use Rattle.history.specs.Row.{blockAt, restOf}
-use Rattle.history.specs.World.{World, admit, step, report, collect, play}
+use Rattle.history.specs.World.{World, admit, step, report, collect, play, recordAt}
 use Rattle.history.proofs.Compute.{computed}
 
 -- of all masks of 4 units for which the test holds, position x missing (5: none), graph g is chosen for a write

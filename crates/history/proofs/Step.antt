@@ -25,13 +25,12 @@ use Rattle.stripe.specs.Blocks.{On, by-read, by-write, changed}
 use Rattle.stripe.specs.Invariant.{Proper}
 use Rattle.stripe.specs.Request.{Request, chosenAfresh}
 use Rattle.history.specs.Account.{Account, counted}
-use Rattle.history.specs.Promise.{recordAt}
-use Rattle.history.specs.World.{World}
+use Rattle.history.specs.World.{World, recordAt}
 use Rattle.history.proofs.Facts.{bounds, open-fits}
 use Rattle.history.proofs.Invariant.{Matches, Working, Sure, requestOf}
 use Rattle.history.proofs.Records.{afresh-fit, request-afresh}
 use Rattle.history.proofs.Rows.{afterRow}
-use Rattle.record.proofs.Clauses.{Fit, fit-sound, open-not-free}
+use Rattle.record.proofs.Clauses.{Fit, fit-sound}
 use Rattle.history.proofs.Tables.{Sound, sound-elim}
 use Rattle.history.proofs.Turn.{Turn, turned}
 
@@ -90,7 +89,7 @@ module _ (w : World) (a : Account) (sure : Sure w a) (i k : ℕ) (ok : Ready (w 
   works = sure .working i (ok .record-below) (ok .is-open)
 
   pub matches : Matches (w .state) r (a .entry i)
-  matches = sure .entries i (ok .record-below) (open-not-free r (ok .is-open))
+  matches = sure .entries i (ok .record-below)
 
   pub no-other : (j : ℕ) → j < w .state .records → ¬ (i ≡ j) → isOpen (recordAt w j) ≡ true → ¬ (r .stripe ≡ recordAt w j .stripe)
   no-other j h d o e = d (table-sound .alone i j in-table (omega (arith, sure .right .table-right)) (ok .is-open) o e)
@@ -105,15 +104,18 @@ module _ (w : World) (a : Account) (sure : Sure w a) (i k : ℕ) (ok : Ready (w 
       (readied n (r .graph) (r .mask) (chosenAt (w .state) r) (r .done) k is-ready .as-step)
 
   -- the entry counts one more, and is otherwise of the same request
-  pub counted-matches : (r′ : Record) (last : Bool) → r′ .write ≡ r .write → r′ .stripe ≡ r .stripe → r′ .mask ≡ r .mask
-      → r′ .count ≡ r .count + 1 → Matches (w .state) r′ (counted (w .state) (a .row) (a .entry i) last)
+  pub counted-matches : (r′ : Record) (last : Bool) → r′ .phase ≡ cond last 2 1 → r′ .write ≡ r .write → r′ .stripe ≡ r .stripe
+      → r′ .mask ≡ r .mask → r′ .count ≡ r .count + 1 → Matches (w .state) r′ (counted (w .state) (a .row) (a .entry i) last)
   unfolding counted
-  counted-matches r′ last kind stripe mask count =
+  counted-matches r′ last phase kind stripe mask count =
       record {
-        same-kind = ap (λ (v : ℕ). eqb v 1) kind ∙ matches .same-kind;
-        same-stripe = stripe ∙ matches .same-stripe;
-        same-mask = mask ∙ matches .same-mask;
-        same-count = count ∙ ap (λ (c : ℕ). c + 1) (matches .same-count);
+        agree = record {
+          same-phase = phase ∙ ap (cond last 2) (sym (eqb-true (r .phase) 1 (ok .is-open)) ∙ matches .agree .same-phase);
+          same-kind = ap (λ (v : ℕ). eqb v 1) kind ∙ matches .agree .same-kind;
+          same-stripe = stripe ∙ matches .agree .same-stripe;
+          same-mask = mask ∙ matches .agree .same-mask;
+          same-count = count ∙ ap (λ (c : ℕ). c + 1) (matches .agree .same-count);
+        };
         paid = matches .paid;
         nothing-due = λ e. due last _ e;
       }
@@ -166,13 +168,13 @@ module _ (w : World) (a : Account) (sure : Sure w a) (i k : ℕ) (ok : Ready (w 
           new-here = λ o. refl;
           alone = no-other;
           own-sound = fit-sound (w .state) chosen (afresh-fit (w .state) r x fits proper);
-          own-entry = λ f. counted-matches chosen false refl refl refl refl;
+          own-entry = counted-matches chosen false refl refl refl refl refl;
           own-working = λ o. works-afresh;
           own-read = λ f g. true≢false (sym f);
           own-resting = λ h o. true≢false o;
         }
 
     pub afresh-sure : Sure (record { state = w .state; table = set (w .table) i chosen; work = w .work; image = w .image })
-        (record { row = a .row; entry = changed (a .entry) i (counted (w .state) (a .row) (a .entry i) false) })
+        (record { state = w .state; row = a .row; entry = changed (a .entry) i (counted (w .state) (a .row) (a .entry i) false) })
     afresh-sure =
         turned w a sure i (r .stripe) chosen (w .work) (w .image) (a .row) (counted (w .state) (a .row) (a .entry i) false) turn

@@ -29,7 +29,7 @@ use Rattle.array.specs.Scan.{scanReply}
 use Rattle.stripe.proofs.Bytes.{sum-xor}
 use Rattle.stripe.specs.Invariant.{IsRow}
 use Rattle.history.specs.Account.{Account}
-use Rattle.history.specs.Promise.{Works, Out}
+use Rattle.history.specs.History.{Missing}
 use Rattle.history.specs.Row.{blockAt, restOf, parityOfRow}
 use Rattle.history.specs.World.{World, scan, play}
 use Rattle.history.proofs.Facts.{bounds}
@@ -128,19 +128,19 @@ module _ (w : World) (a : Account) (sure : Sure w a) where
   -- ---- by block number
 
   module _ (L : ℕ) (h : L < unitsOf st * st .stripes) (idle : held (w .table) (stripeOf N L) ≡ false) where
-    pub promised-unit : Works w (cardOf N L) (stripeOf N L) → blockAt st (w .image) (cardOf N L) (stripeOf N L) ≡ a .row L
+    pub promised-unit : ¬ Missing st (cardOf N L) (stripeOf N L) → blockAt st (w .image) (cardOf N L) (stripeOf N L) ≡ a .row L
     promised-unit works =
         unit-block (stripeOf N L) (stripe-below N L (st .stripes) h) idle (unitOf N L) (unit-below N L (st .stripes) h)
         (ap (λ (k : ℕ). length (a .row k)) (block-back N L) ∙ sure .row-size L h) works
         ∙ ap (a .row) (block-back N L)
 
-    pub promised-inferred : Out w (cardOf N L) (stripeOf N L) → restOf st (w .image) (cardOf N L) (stripeOf N L) ≡ a .row L
+    pub promised-inferred : Missing st (cardOf N L) (stripeOf N L) → restOf st (w .image) (cardOf N L) (stripeOf N L) ≡ a .row L
     promised-inferred out =
         unit-inferred (stripeOf N L) (stripe-below N L (st .stripes) h) idle (unitOf N L) (unit-below N L (st .stripes) h)
         (ap (λ (k : ℕ). length (a .row k)) (block-back N L) ∙ sure .row-size L h) out
         ∙ ap (a .row) (block-back N L)
 
-  pub promised-parity : (s : ℕ) → s < st .stripes → held (w .table) s ≡ false → Works w (cardAt N s (unitsOf st)) s
+  pub promised-parity : (s : ℕ) → s < st .stripes → held (w .table) s ≡ false → ¬ Missing st (cardAt N s (unitsOf st)) s
       → blockAt st (w .image) (cardAt N s (unitsOf st)) s ≡ parityOfRow st (a .row) s
   promised-parity s hs idle works = parity-block s hs idle works
 

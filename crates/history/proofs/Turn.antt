@@ -18,15 +18,15 @@ use Rattle.geometry.proofs.Bounds.{Bounds}
 use Rattle.geometry.specs.Placement.{cardAt, blockOf}
 use Rattle.geometry.specs.Store.{readAt}
 use Rattle.parity.specs.Parity.{byteAt}
-use Rattle.record.specs.Life.{free, isFree, isOpen, isFinished, isWrite, unitsOf, missingIn}
+use Rattle.record.specs.Life.{free, isOpen, isFinished, isWrite, unitsOf, missingIn}
 use Rattle.record.specs.Sound.{soundRecord, held, holds}
 use Rattle.record.specs.declared.Record.{Record}
 use Rattle.array.proofs.Frames.{newByte, gotByte}
 use Rattle.stripe.proofs.Heart.{heart}
 use Rattle.stripe.specs.Blocks.{changed}
 use Rattle.history.specs.Account.{Account, Entry}
-use Rattle.history.specs.Promise.{recordAt, blocksRead}
-use Rattle.history.specs.World.{World}
+use Rattle.history.specs.Promise.{blocksRead}
+use Rattle.history.specs.World.{World, recordAt}
 use Rattle.stripe.proofs.Bytes.{bytes}
 use Rattle.history.proofs.Facts.{bounds, open-fits}
 use Rattle.history.proofs.Gather.{gathered-cong}
@@ -56,7 +56,7 @@ pub record Turn (w : World) (a : Account) (i s : ℕ) (r′ : Record) (work′ i
   pub alone : (j : ℕ) → j < w .state .records → ¬ (i ≡ j) → isOpen (recordAt w j) ≡ true → ¬ (s ≡ recordAt w j .stripe)
   -- record i and stripe s themselves
   pub own-sound : soundRecord (w .state) r′ ≡ true
-  pub own-entry : isFree r′ ≡ false → Matches (w .state) r′ e′
+  pub own-entry : Matches (w .state) r′ e′
   pub own-working : isOpen r′ ≡ true → Working (w .state) work′ image′ row′ e′ i r′
   pub own-read : isFinished r′ ≡ true → isWrite r′ ≡ false
       → blocksRead (w .state) work′ i (r′ .mask) ≡ e′ .due
@@ -68,7 +68,7 @@ module _ (w : World) (a : Account) (sure : Sure w a) (i s : ℕ) (r′ : Record)
   after = record { state = w .state; table = set (w .table) i r′; work = work′; image = image′ }
 
   abbrev noted : Account
-  noted = record { row = row′; entry = changed (a .entry) i e′ }
+  noted = record { state = w .state; row = row′; entry = changed (a .entry) i e′ }
 
   here : recordAt after i ≡ r′
   here = getD-set-same (w .table) i r′ free (omega (arith, turn .below, sure .right .table-right))
@@ -226,9 +226,9 @@ module _ (w : World) (a : Account) (sure : Sure w a) (i s : ℕ) (r′ : Record)
           whole = sure .right .whole;
         };
         row-size = turn .row-size;
-        entries = each {P = λ j. j < w .state .records → isFree (recordAt after j) ≡ false → Matches (w .state) (recordAt after j) (noted .entry j)}
-            (λ h f. rw (here, entry-here) (turn .own-entry (rw here at f)))
-            (λ j d h f. rw (there j d, entry-there j d) (sure .entries j h (rw (there j d) at f)));
+        entries = each {P = λ j. j < w .state .records → Matches (w .state) (recordAt after j) (noted .entry j)}
+            (λ h. rw (here, entry-here) (turn .own-entry))
+            (λ j d h. rw (there j d, entry-there j d) (sure .entries j h));
         resting = resting-each;
         working = each {P = λ j. j < w .state .records → isOpen (recordAt after j) ≡ true
             → Working (w .state) work′ image′ row′ (noted .entry j) j (recordAt after j)}

@@ -1,4 +1,4 @@
--- Small arrays to show things on: blocks filled with one byte, and events one after the other.
+-- Small arrays to show things on: blocks filled with one byte, and calls one after the other.
 -- Assumes nothing.
 use Prim.Native.Nat.{ℕ, _*_}
 use mathlib.Core.List.{List, [], _∷_}
@@ -22,9 +22,9 @@ unfoldable pub opened : ℕ → ℕ → ℕ → List ℕ → World
 opened N K out image = openedWorld (small N K) out (replicate K free) (replicate (2 * N * 16 * K) 0) image
 
 unfoldable pub openedBook : ℕ → ℕ → ℕ → List ℕ → Account
-openedBook N K out image = openedAccount (small N K) out (replicate K free) (replicate (2 * N * 16 * K) 0) image
+openedBook N K out image = openedAccount (small N K) out image
 
--- the world after these events, the first one first, and the account kept beside it
+-- the world after these calls, the first one first, and the account kept beside it
 unfoldable pub after : Engine → World → List Event → World
 after engine w [] = w
 after engine w (e ∷ es) = after engine (engine w e .world) es

@@ -1,51 +1,78 @@
--- Histories: an accepted opening, then calls, and decay of the card that is out at any moment. Nobody else alters anything.
+-- Histories: an accepted opening, then calls one after the other, and decay of missing blocks at any moment. Nobody else alters anything.
 -- Assumes nothing.
 use Prim.Native.Nat.{ℕ, _<_}
-use mathlib.Core.Bool.{false}
-use mathlib.Core.List.{List, []}
+use mathlib.Core.Bool.{true, cond}
+use mathlib.Core.List.{List, [], _∷_, _++_}
 use mathlib.Core.Path.{_≡_}
+use lib.Dec.{eqb}
 use lib.ListN.{length}
+use Rattle.terms.specs.Lists.{every}
+use Rattle.terms.specs.Reply.{onAccept}
+use Rattle.geometry.specs.Limits.{none}
 use Rattle.geometry.specs.Placement.{outIn}
 use Rattle.geometry.specs.declared.Geometry.{Geometry}
 use Rattle.geometry.specs.declared.State.{State}
 use Rattle.parity.specs.Parity.{byteAt}
 use Rattle.record.specs.declared.Record.{Record}
 use Rattle.array.specs.Opening.{opening}
-use Rattle.history.specs.Account.{Account, requested, noted}
+use Rattle.array.specs.Refusals.{opened as openedState}
+use Rattle.history.specs.Account.{Account, vacant, noted}
 use Rattle.history.specs.Row.{openedRow}
-use Rattle.history.specs.World.{World, Event, admit, step, report, collect, scan, decay, Engine}
+use Rattle.history.specs.World.{World, Event, admit, step, report, collect, scan, Engine, withImage}
 
--- an image turns to one of the same length that agrees with it on every card but the one that is out
+-- card c's block of stripe s is missing: that card is out there
+abbrev pub Missing : State → ℕ → ℕ → Type 0
+Missing st c s = c ≡ outIn st s
+
+-- an image turns to one of the same length that agrees with it on every block that is not missing
 pub record Decayed (st : State) (image image′ : List ℕ) : Type 0 where
   pub same-length : length image′ ≡ length image
-  pub same-bytes : (c s b : ℕ) → c < st .cards → s < st .stripes → b < st .block → ¬ (c ≡ outIn st s)
+  pub same-bytes : (c s b : ℕ) → c < st .cards → s < st .stripes → b < st .block → ¬ Missing st c s
       → byteAt (st .stripes) (st .block) image′ c s b ≡ byteAt (st .stripes) (st .block) image c s b
 
--- any call can be made at any moment; a decay leaves the cards that work
-unfoldable pub Possible : World → Event → Type 0
-Possible w (admit write s mask payload) = Unit {0}
-Possible w (step i k) = Unit {0}
-Possible w (report c) = Unit {0}
-Possible w (collect i result) = Unit {0}
-Possible w scan = Unit {0}
-Possible w (decay image) = Decayed (w .state) (w .image) image
-
--- the world that an opening leaves, and the account at its start: the row read off the image, and no request
+-- the world that an opening leaves, and the account at its start: the card out as given, the row read off the image, and no request
 unfoldable pub openedWorld : Geometry → ℕ → List Record → List ℕ → List ℕ → World
 openedWorld g out table work image =
     let o = opening g out table work image in record { state = o .state; table = o .table; work = work; image = image }
 
-unfoldable pub openedAccount : Geometry → ℕ → List Record → List ℕ → List ℕ → Account
-openedAccount g out table work image =
-    record { row = openedRow (opening g out table work image .state) image; entry = λ i. requested false 0 0 [] }
+unfoldable pub openedAccount : Geometry → ℕ → List ℕ → Account
+openedAccount g out image =
+    record { state = openedState g out; row = openedRow (openedState g out) image; entry = λ i. vacant }
 
--- the histories of an engine that end with a world and an account
+-- the histories of an engine that end with a world and an account. Which blocks may decay, the account says
 pub data History (engine : Engine) : World → Account → Type 0 where
   opened : (g : Geometry) (out : ℕ) (table : List Record) (work image : List ℕ) → opening g out table work image .reply .number ≡ 0
-      → History engine (openedWorld g out table work image) (openedAccount g out table work image)
-  next : {w : World} {a : Account} → History engine w a → (e : Event) → Possible w e
-      → History engine (engine w e .world) (noted engine w a e)
+      → History engine (openedWorld g out table work image) (openedAccount g out image)
+  next : {w : World} {a : Account} → History engine w a → (e : Event) → History engine (engine w e .world) (noted engine w a e)
+  decayed : {w : World} {a : Account} → History engine w a → (image : List ℕ) → Decayed (a .state) (w .image) image
+      → History engine (withImage w image) a
 
--- the array is not lost: no second, different card was ever reported
-unfoldable pub Whole : World → Type 0
-Whole w = w .state .lost ≡ 0
+-- P holds of the world and the account at every moment of a history: after the opening, and after each call and each decay
+unfoldable pub Always : (P : World → Account → Type 0) {engine : Engine} {w : World} {a : Account} → History engine w a → Type 0
+Always P (opened g out table work image ok) = P (openedWorld g out table work image) (openedAccount g out image)
+Always P {engine} (next {w} {a} h e) = Always P h × P (engine w e .world) (noted engine w a e)
+Always P (decayed {w} {a} h image d) = Always P h × P (withImage w image) a
+
+-- ---- at most one card in all
+
+-- the card that a call reports
+unfoldable pub reportedIn : Event → List ℕ
+reportedIn (admit write s mask payload) = []
+reportedIn (step i k) = []
+reportedIn (report c) = c ∷ []
+reportedIn (collect i result) = []
+reportedIn scan = []
+
+-- the cards that were out at the opening or in an accepted report, the latest first
+unfoldable pub cardsOut : {engine : Engine} {w : World} {a : Account} → History engine w a → List ℕ
+cardsOut (opened g out table work image ok) = cond (eqb out none) [] (out ∷ [])
+cardsOut {engine} (next {w} h e) = onAccept (engine w e .reply .number) (reportedIn e) [] ++ cardsOut h
+cardsOut (decayed h image d) = cardsOut h
+
+-- they are all one card
+unfoldable pub OneCard : {engine : Engine} {w : World} {a : Account} → History engine w a → Type 0
+OneCard h = (c : ℕ) × (every (λ d. eqb d c) (cardsOut h) ≡ true)
+
+-- the array is not lost, by the account: no second, different card was reported
+unfoldable pub Whole : Account → Type 0
+Whole a = a .state .lost ≡ 0

@@ -1,10 +1,12 @@
--- What goes from call to call, what can happen to it, and what comes of it: by the same definitions that the calls' contracts cite.
+-- What goes from call to call, the calls on it, and what comes of each: by the same definitions that the calls' contracts cite.
 -- Assumes nothing.
 use Prim.Native.Nat.{ℕ}
 use mathlib.Core.Bool.{Bool}
 use mathlib.Core.List.{List, []}
-use Rattle.terms.specs.Reply.{Reply, accepted}
+use lib.ListN.{getD}
+use Rattle.terms.specs.Reply.{Reply}
 use Rattle.geometry.specs.declared.State.{State}
+use Rattle.record.specs.Life.{free}
 use Rattle.record.specs.declared.Record.{Record}
 use Rattle.array.specs.Admission.{admission}
 use Rattle.array.specs.Collection.{collection}
@@ -19,7 +21,15 @@ pub record World : Type 0 where
   pub work : List ℕ
   pub image : List ℕ
 
--- a call with its arguments; or decay, after which the image is this one
+-- record i of the table
+abbrev pub recordAt : World → ℕ → Record
+recordAt w i = getD (w .table) i free
+
+-- the same world with another image
+abbrev pub withImage : World → List ℕ → World
+withImage w image = record { state = w .state; table = w .table; work = w .work; image = image }
+
+-- a call with its arguments
 pub data Event : Type 0 where
   -- write or not, the stripe, the unit mask, the payload
   admit : Bool → ℕ → ℕ → List ℕ → Event
@@ -30,7 +40,6 @@ pub data Event : Type 0 where
   -- the record, the result buffer as it is lent
   collect : ℕ → List ℕ → Event
   scan : Event
-  decay : List ℕ → Event
 
 -- what is answered, and the world and the result buffer that are left; no buffer is lent but to collect
 pub record Outcome : Type 0 where
@@ -38,11 +47,11 @@ pub record Outcome : Type 0 where
   pub world : World
   pub result : List ℕ
 
--- an engine: what it makes of each event in each world
+-- an engine: what it makes of each call in each world
 abbrev pub Engine : Type 0
 Engine = World → Event → Outcome
 
--- ours: what comes of an event. A decay answers nothing
+-- ours: what comes of a call
 unfoldable pub play : Engine
 play w (admit write s mask payload) =
     let a = admission (w .state) (w .table) (w .work) (w .image) write s mask payload in
@@ -73,9 +82,3 @@ play w (collect i result) =
       result = a .result;
     }
 play w scan = record { reply = scanReply (w .state) (w .table) (w .image); world = w; result = [] }
-play w (decay image) =
-    record {
-      reply = accepted 0 0;
-      world = record { state = w .state; table = w .table; work = w .work; image = image };
-      result = [];
-    }
