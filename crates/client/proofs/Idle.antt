@@ -3,9 +3,9 @@
 use Prim.Native.Nat.{ℕ, _<_}
 use mathlib.Core.Bool.{true, false, not}
 use mathlib.Core.List.{List, []}
-use mathlib.Core.Path.{_≡_, refl, ap, _∙_}
+use mathlib.Core.Path.{_≡_, refl, sym, ap, _∙_}
 use native.Mathlib.Omega.{arith}
-use borrow.Author.Tests.{eq-eqb}
+use borrow.Author.Tests.{eq-eqb, ne-eqb}
 use lib.Dec.{eqb}
 use lib.ListN.{length, getD}
 use Rattle.terms.specs.Reply.{firstRow}
@@ -19,15 +19,18 @@ use Rattle.record.specs.Life.{free, isOpen}
 use Rattle.record.specs.Sound.{holds, held}
 use Rattle.record.specs.declared.Record.{Record}
 use Rattle.array.proofs.Passed.{Right}
+use Rattle.history.proofs.Demand3.{demand-3}
 use Rattle.history.proofs.Events.{history-sure}
 use Rattle.history.proofs.Parities.{right-intro}
 use Rattle.history.proofs.Stripes.{parity-right}
 use Rattle.history.proofs.Tables.{held-intro}
 use Rattle.history.specs.Account.{Account}
 use Rattle.history.specs.History.{History, Whole}
-use Rattle.history.specs.Promise.{InTable, recordAt}
-use Rattle.history.specs.World.{World, play}
+use Rattle.history.specs.Promise.{Open, Keeps}
+use Rattle.history.specs.World.{World, recordAt, play}
 use Rattle.recorder.specs.Packing.{packed}
+use Rattle.client.specs.Run.{functions, Run}
+use Rattle.client.proofs.Runs.{functions-fixed, is-history}
 
 -- where no record is open, no stripe is held
 none-held : (table : List Record) (K : ℕ) → length table ≡ K → ((i : ℕ) → i < K → isOpen (getD table i free) ≡ false) → (s : ℕ) → held table s ≡ false
@@ -48,12 +51,26 @@ module _ (st : State) (image : List ℕ) where
       ∙ (unfold firstRow in refl)
 
 -- at the end of a history, whatever answer the contract of coppicetune_scan allows for the state's six numbers and the image
-module _ {w : World} {a : Account} (h : History play w a) (whole : Whole w) (closed : (i : ℕ) → InTable w i → isOpen (recordAt w i) ≡ false) where
-  pub idle-scan : w .state .out ≡ none → (answer : ℕ) → answer ≡ packed (idleScanReply (w .state) (w .image)) → answer ≡ 0
-  unfolding idleScanReply packed
+module _ {w : World} {a : Account} (h : History play w a) (whole : Whole a) (closed : (i : ℕ) → ¬ Open a i) where
+  -- the records are not open, as the account says
+  none-open : (i : ℕ) → i < w .state .records → isOpen (recordAt w i) ≡ false
+  unfolding Keeps
+  none-open i below =
+      let p = demand-3 w a h whole in
+      let there : i < a .state .records = rw (p .same-state) at below in
+      ne-eqb (recordAt w i .phase) 1 (λ e. closed i (there, sym (p .agrees i there .same-phase) ∙ e))
+
+  pub idle-scan : a .state .out ≡ none → (answer : ℕ) → answer ≡ packed (idleScanReply (w .state) (w .image)) → answer ≡ 0
+  unfolding idleScanReply packed Keeps
   idle-scan out answer e =
       let st : State = w .state in
+      let none-out : st .out ≡ none = ap (λ (s : State). s .out) (demand-3 w a h whole .same-state) ∙ out in
       let sure = history-sure h whole in
-      let idle = none-held (w .table) (st .records) (sure .right .table-right) closed in
-      let all = right-intro (st .cards) (st .stripes) (st .block) (w .image) nothingHeld (λ s b hs hb _. parity-right w a sure s hs (idle s) out b hb) in
-      e ∙ rw (accepted st (w .image) (sure .right) out all)
+      let idle = none-held (w .table) (st .records) (sure .right .table-right) none-open in
+      let all = right-intro (st .cards) (st .stripes) (st .block) (w .image) nothingHeld (λ s b hs hb _. parity-right w a sure s hs (idle s) none-out b hb) in
+      e ∙ rw (accepted st (w .image) (sure .right) none-out all)
+
+-- and so at the end of a run of the C functions
+pub functions-idle-scan : {w : World} {a : Account} → Run functions w a → Whole a → ((i : ℕ) → ¬ Open a i) → a .state .out ≡ none
+    → (answer : ℕ) → answer ≡ packed (idleScanReply (w .state) (w .image)) → answer ≡ 0
+functions-idle-scan r = idle-scan (is-history functions-fixed r .history)

@@ -2,8 +2,7 @@
 -- Assumes nothing.
 use Prim.Native.Nat.{ℕ}
 use mathlib.Core.List.{List}
-use mathlib.Core.Path.{_≡_, refl, sym, ap, _∙_}
-use native.Mathlib.Omega.{arith}
+use mathlib.Core.Path.{_≡_, refl, ap, _∙_}
 use Rattle.terms.specs.Reply.{Reply}
 use Rattle.geometry.specs.declared.Geometry.{Geometry}
 use Rattle.geometry.specs.declared.State.{State}
@@ -41,7 +40,6 @@ call-plays (call.steps i k answer table work image h) = parts left (h .reply) re
 call-plays (call.reports c answer state h) = parts left (h .reply) (h .state-left) refl refl refl refl
 call-plays (call.collects i result answer table result′ h) = parts left (h .reply) refl (h .table-left) refl refl (h .result-left)
 call-plays (call.scans answer h) = parts left (h .0) refl refl refl refl refl
-call-plays (call.decays image) = refl
 
 -- an answer that is packed is read as the reply
 module _ {r : Reply} {answer : ℕ} (room : Roomy r) where
@@ -58,7 +56,6 @@ function-plays (function.reports c answer state h) = parts left (read (report-ro
 function-plays (function.collects i result answer table result′ h) =
     parts left (read (collect-room _ _ _ _ _) (h .answered)) refl (h .table-left) refl refl (h .result-left)
 function-plays (function.checks answer h) = parts left (read (scan-room _ _ _) h) refl refl refl refl refl
-function-plays (function.decays image) = refl
 
 -- ---- the opening
 

@@ -1,16 +1,19 @@
 -- A run of what the contracts allow is a history of `play`, with the same worlds and the same account.
 -- Assumes nothing.
 use Prim.Native.Nat.{ℕ}
-use mathlib.Core.List.{List}
+use mathlib.Core.List.{List, [], _∷_}
 use mathlib.Core.Path.{_≡_, refl, sym, subst, ap, _∙_}
+use Rattle.terms.specs.Reply.{onAccept}
 use Rattle.geometry.specs.declared.Geometry.{Geometry}
 use Rattle.record.specs.declared.Record.{Record}
 use Rattle.array.specs.Opening.{Opening, opening}
-use Rattle.history.specs.Account.{Account, noted}
-use Rattle.history.specs.History.{History, Possible, openedWorld, openedAccount}
+use Rattle.history.specs.Account.{Account, entered, noted}
+use Rattle.history.specs.History.{History, openedWorld, openedAccount}
 use Rattle.history.specs.History as history
-use Rattle.history.specs.World.{World, Event, admit, step, report, collect, scan, decay, Outcome, play}
-use Rattle.client.specs.Run.{Contracts, calls, functions, Run, opened, next}
+use Rattle.history.specs.Serial.{Seen, firstOf, seenOf}
+use Rattle.history.specs.World.{World, Event, Outcome, play}
+use Rattle.client.specs.Run.{Contracts, calls, functions, Run, opened, next, decayed}
+use Rattle.client.specs.Run as run
 use Rattle.client.proofs.Plays.{call-plays, call-opens, function-plays, function-opens}
 
 -- contracts that leave no choice: an accepted opening is the definition's, and an event comes out as `play` has it
@@ -25,23 +28,30 @@ calls-fixed = record { opens-so = call-opens; plays-so = call-plays }
 pub functions-fixed : Fixed functions
 functions-fixed = record { opens-so = function-opens; plays-so = function-plays }
 
--- the account is kept by the outcome of the event alone
-noted-by : (w : World) (a : Account) (e : Event) → noted (λ v d. play w e) w a e ≡ noted play w a e
-unfolding noted
-noted-by w a (admit write s mask payload) = refl
-noted-by w a (step i k) = refl
-noted-by w a (report c) = refl
-noted-by w a (collect i result) = refl
-noted-by w a scan = refl
-noted-by w a (decay image) = refl
+-- a run and a history with the same worlds, the same account, and the same calls and outcomes
+pub record IsHistory {by : Contracts} {w : World} {a : Account} (r : Run by w a) : Type 0 where
+  pub history : History play w a
+  pub same-first : firstOf history ≡ run.firstOf r
+  pub same-seen : seenOf history ≡ run.seenOf r
 
-module _ (by : Contracts) (fixed : Fixed by) where
-  pub run-history : {w : World} {a : Account} → Run by w a → History play w a
-  unfolding openedWorld
-  run-history (opened g out table work image o h ok) =
+module _ {by : Contracts} (fixed : Fixed by) where
+  pub is-history : {w : World} {a : Account} (r : Run by w a) → IsHistory r
+  unfolding openedWorld noted firstOf seenOf run.firstOf run.seenOf
+  is-history (opened g out table work image o h ok) =
       let same = fixed .opens-so h ok in
-      subst (λ (d : Opening). History play (record { state = d .state; table = d .table; work = work; image = image }) (openedAccount g out table work image)) (sym same)
-      (history.opened g out table work image (ap (λ (d : Opening). d .reply .number) (sym same) ∙ ok))
-  run-history (next {w} {a} r e p o h) =
-      subst (λ (d : Outcome). History play (d .world) (noted (λ v x. d) w a e)) (sym (fixed .plays-so h))
-      (subst (History play (play w e .world)) (sym (noted-by w a e)) (history.next (run-history r) e p))
+      let start : (d : Opening) → Type 0 = λ d.
+      (x : History play (record { state = d .state; table = d .table; work = work; image = image }) (openedAccount g out image))
+      × (firstOf x ≡ openedAccount g out image) × (seenOf x ≡ []) in
+      let made : start o = subst start (sym same) (history.opened g out table work image (ap (λ (d : Opening). d .reply .number) (sym same) ∙ ok), refl, refl) in
+      record { history = made .0; same-first = made .1; same-seen = made .2 }
+  is-history (next {w} {a} r e o h) =
+      let before = is-history r in
+      let after : (d : Outcome) → Type 0 = λ d.
+      (x : History play (d .world) (onAccept (d .reply .number) (entered a e d) a))
+      × (firstOf x ≡ run.firstOf r) × (seenOf x ≡ record { account = a; event = e; outcome = d } ∷ run.seenOf r) in
+      let made : after o = subst after (sym (fixed .plays-so h))
+      (history.next (before .history) e, before .same-first, ap (λ (l : List Seen). record { account = a; event = e; outcome = play w e } ∷ l) (before .same-seen)) in
+      record { history = made .0; same-first = made .1; same-seen = made .2 }
+  is-history (decayed r image d) =
+      let before = is-history r in
+      record { history = history.decayed (before .history) image d; same-first = before .same-first; same-seen = before .same-seen }

@@ -2,21 +2,19 @@
 -- about all outcomes that they allow are about some, and by Plays about this one.
 -- Assumes nothing.
 use Prim.Native.Nat.{ℕ}
-use mathlib.Core.Bool.{Bool, true, false, not}
+use mathlib.Core.Bool.{true, false, not}
 use mathlib.Core.List.{List, []}
-use mathlib.Core.Path.{_≡_, refl, subst}
+use mathlib.Core.Path.{refl, subst}
 use lib.Dec.{eqb}
 use Rattle.terms.specs.Reply.{Reply}
 use Rattle.geometry.specs.Report.{reporting}
-use Rattle.geometry.specs.declared.State.{State}
-use Rattle.record.specs.declared.Record.{Record}
 use Rattle.array.specs.Admission.{admission}
 use Rattle.array.specs.Collection.{collection}
 use Rattle.array.specs.Scan.{scanReply}
 use Rattle.array.specs.Stepping.{stepping}
 use Rattle.recorder.proofs.Room.{admit-room, step-room, report-room, collect-room, scan-room}
 use Rattle.recorder.specs.Packing.{packed, Roomy}
-use Rattle.history.specs.World.{World, Event, admit, step, report, collect, scan, decay, Outcome, play}
+use Rattle.history.specs.World.{World, Event, admit, step, report, collect, scan, Outcome, play}
 use Rattle.client.specs.Lent.{left}
 use Rattle.client.specs.Packed.{unpacked, ByFunctions}
 use Rattle.client.specs.Packed as function
@@ -56,7 +54,6 @@ module _ (w : World) where
   meets scan =
       read (λ r. left r (w .state) (w .table) (w .work) (w .image) []) (scanReply (w .state) (w .table) (w .image)) (scan-room _ _ _)
       (function.checks _ refl)
-  meets (decay image) = function.decays image
 
 pub functions-answer : Meets functions play
 unfolding Meets

@@ -5,7 +5,7 @@ use Prim.Native.Nat.{ℕ}
 use mathlib.Core.Bool.{Bool}
 use mathlib.Core.List.{List, []}
 use mathlib.Core.Path.{_≡_}
-use Rattle.terms.specs.Reply.{Reply, accepted}
+use Rattle.terms.specs.Reply.{Reply}
 use Rattle.geometry.specs.Report.{ReportingIs, reporting, reportedReply}
 use Rattle.geometry.specs.declared.Geometry.{Geometry}
 use Rattle.geometry.specs.declared.State.{State}
@@ -24,7 +24,7 @@ use Rattle.array.specs.declared.answers.Collected.{Collected}
 use Rattle.array.specs.declared.answers.Opened.{Opened}
 use Rattle.array.specs.declared.answers.Stepped.{Stepped}
 use Rattle.calls.specs.Lent.{OpeningLent, AdmissionLent, SteppingLent, CollectionLent}
-use Rattle.history.specs.World.{World, Event, admit, step, report, collect, scan, decay, Outcome}
+use Rattle.history.specs.World.{World, Event, admit, step, report, collect, scan, Outcome}
 
 -- an outcome: the reply, what is left in the state, the table, the work store and the image, and in the result buffer where one is lent
 abbrev pub left : Reply → State → List Record → List ℕ → List ℕ → List ℕ → Outcome
@@ -52,4 +52,3 @@ pub data ByCalls (w : World) : Event → Outcome → Type 0 where
       → ByCalls w (collect i result) (left (collectedReply answer) (w .state) table (w .work) (w .image) result′)
   scans : (answer : Scan) → (reply answer ≡ scanReply (w .state) (w .table) (w .image)) × Named answer
       → ByCalls w scan (left (reply answer) (w .state) (w .table) (w .work) (w .image) [])
-  decays : (image : List ℕ) → ByCalls w (decay image) (left (accepted 0 0) (w .state) (w .table) (w .work) image [])

@@ -6,7 +6,7 @@ use mathlib.Core.Bool.{not}
 use mathlib.Core.List.{List, []}
 use mathlib.Core.Path.{_≡_}
 use lib.Dec.{eqb}
-use Rattle.terms.specs.Reply.{Reply, accepted}
+use Rattle.terms.specs.Reply.{Reply}
 use Rattle.geometry.specs.Report.{reporting}
 use Rattle.geometry.specs.declared.Geometry.{Geometry}
 use Rattle.geometry.specs.declared.State.{State}
@@ -18,7 +18,7 @@ use Rattle.array.specs.Scan.{scanReply}
 use Rattle.array.specs.Stepping.{stepping}
 use Rattle.recorder.specs.Engine.{OpeningPacked, AdmissionPacked, SteppingPacked, ReportingPacked, CollectionPacked}
 use Rattle.recorder.specs.Packing.{packed}
-use Rattle.history.specs.World.{World, Event, admit, step, report, collect, scan, decay, Outcome}
+use Rattle.history.specs.World.{World, Event, admit, step, report, collect, scan, Outcome}
 use Rattle.client.specs.Lent.{left}
 
 -- a packed answer as it is read: the number in the low 16 bits, the first value in the next 16, the second in the rest
@@ -45,4 +45,3 @@ pub data ByFunctions (w : World) : Event → Outcome → Type 0 where
       → ByFunctions w (collect i result) (left (unpacked answer) (w .state) table (w .work) (w .image) result′)
   checks : (answer : ℕ) → answer ≡ packed (scanReply (w .state) (w .table) (w .image))
       → ByFunctions w scan (left (unpacked answer) (w .state) (w .table) (w .work) (w .image) [])
-  decays : (image : List ℕ) → ByFunctions w (decay image) (left (accepted 0 0) (w .state) (w .table) (w .work) image [])

@@ -1,14 +1,16 @@
 -- Runs: what a client sees who opens an array and makes calls, where all that is known of them is what their contracts say.
 -- Assumes nothing.
 use Prim.Native.Nat.{ℕ}
-use mathlib.Core.List.{List}
+use mathlib.Core.List.{List, [], _∷_}
 use mathlib.Core.Path.{_≡_}
+use Rattle.terms.specs.Reply.{onAccept}
 use Rattle.geometry.specs.declared.Geometry.{Geometry}
 use Rattle.record.specs.declared.Record.{Record}
 use Rattle.array.specs.Opening.{Opening}
-use Rattle.history.specs.Account.{Account, noted}
-use Rattle.history.specs.History.{Possible, openedAccount}
-use Rattle.history.specs.World.{World, Event, Outcome, Engine}
+use Rattle.history.specs.Account.{Account, entered}
+use Rattle.history.specs.History.{Decayed, openedAccount}
+use Rattle.history.specs.Serial.{Seen}
+use Rattle.history.specs.World.{World, Event, Outcome, Engine, withImage}
 use Rattle.client.specs.Lent.{OpenedByCall, ByCalls}
 use Rattle.client.specs.Packed.{OpenedByFunction, ByFunctions}
 
@@ -24,14 +26,27 @@ calls = record { opens = OpenedByCall; allows = ByCalls }
 abbrev pub functions : Contracts
 functions = record { opens = OpenedByFunction; allows = ByFunctions }
 
--- an accepted opening, then events, each with any outcome that is allowed; the world that is left goes on to the next, and the account is kept
--- by what is answered
+-- an accepted opening, then calls, each with any outcome that is allowed, and decay of missing blocks at any moment. The world that is left
+-- goes on to the next call, and the account is kept by what was answered and left
 pub data Run (by : Contracts) : World → Account → Type 0 where
   opened : (g : Geometry) (out : ℕ) (table : List Record) (work image : List ℕ) (o : Opening)
       → by .opens g out table work image o → o .reply .number ≡ 0
-      → Run by (record { state = o .state; table = o .table; work = work; image = image }) (openedAccount g out table work image)
-  next : {w : World} {a : Account} → Run by w a → (e : Event) → Possible w e → (o : Outcome) → by .allows w e o
-      → Run by (o .world) (noted (λ v d. o) w a e)
+      → Run by (record { state = o .state; table = o .table; work = work; image = image }) (openedAccount g out image)
+  next : {w : World} {a : Account} → Run by w a → (e : Event) (o : Outcome) → by .allows w e o
+      → Run by (o .world) (onAccept (o .reply .number) (entered a e o) a)
+  decayed : {w : World} {a : Account} → Run by w a → (image : List ℕ) → Decayed (a .state) (w .image) image
+      → Run by (withImage w image) a
+
+-- the account at a run's start, and what its client has seen since, the latest first
+unfoldable pub firstOf : {by : Contracts} {w : World} {a : Account} → Run by w a → Account
+firstOf (opened g out table work image o h ok) = openedAccount g out image
+firstOf (next r e o h) = firstOf r
+firstOf (decayed r image d) = firstOf r
+
+unfoldable pub seenOf : {by : Contracts} {w : World} {a : Account} → Run by w a → List Seen
+seenOf (opened g out table work image o h ok) = []
+seenOf (next {w} {a} r e o h) = record { account = a; event = e; outcome = o } ∷ seenOf r
+seenOf (decayed r image d) = seenOf r
 
 -- an engine that meets the contracts: each of its outcomes is one that they allow
 unfoldable pub Meets : Contracts → Engine → Type 0

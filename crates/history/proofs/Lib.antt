@@ -37,6 +37,7 @@ pub mod Alikes
 pub mod Independent
 -- The theorems
 pub mod Demand3
+pub mod Serial
 pub mod Finish
 -- Shown by computation
 pub mod Compute

@@ -4,5 +4,6 @@ pub mod Row
 pub mod Account
 pub mod History
 pub mod Promise
+pub mod Serial
 pub mod Answers
 pub mod Examples
