@@ -18,7 +18,6 @@ use Rattle.parity.specs.Scan.{nothingHeld, idleScanRefusal, idleScanReply}
 use Rattle.record.specs.Life.{free, isOpen}
 use Rattle.record.specs.Sound.{holds, held}
 use Rattle.record.specs.declared.Record.{Record}
-use Rattle.array.proofs.Passed.{Right}
 use Rattle.history.proofs.Demand3.{demand-3}
 use Rattle.history.proofs.Events.{history-sure}
 use Rattle.history.proofs.Parities.{right-intro}
@@ -37,15 +36,16 @@ none-held : (table : List Record) (K : ℕ) → length table ≡ K → ((i : ℕ
 unfolding holds
 none-held table K long closed s = held-intro table s (λ i h. rw (closed i (omega arith)))
 
--- what goes from call to call is right, none is out and parity is right everywhere: the scan without a table is accepted
+-- the limits hold, the image is as long as it should be, the array is not lost, none is out and parity is right everywhere: the scan without a
+-- table is accepted
 module _ (st : State) (image : List ℕ) where
-  accepted : {table : List Record} {work : List ℕ} → Right st table work image → st .out ≡ none
+  accepted : beyondState st ≡ false → length image ≡ imageSize (st .cards) (st .stripes) (st .block) → st .lost ≡ 0 → st .out ≡ none
       → rightParity (st .cards) (st .stripes) (st .block) image nothingHeld ≡ true → idleScanRefusal st image ≡ 0
   unfolding idleScanRefusal imageWrong
-  accepted right out all =
-      firstRow-skip (beyondState st) 1 _ (right .limits)
-      ∙ firstRow-skip (imageWrong st image) 2 _ (ap not (eq-eqb (length image) (imageSize (st .cards) (st .stripes) (st .block)) (right .image-right)))
-      ∙ firstRow-skip (isLost st) 4 _ (ap not (eq-eqb (st .lost) 0 (right .whole)))
+  accepted limits long whole out all =
+      firstRow-skip (beyondState st) 1 _ limits
+      ∙ firstRow-skip (imageWrong st image) 2 _ (ap not (eq-eqb (length image) (imageSize (st .cards) (st .stripes) (st .block)) long))
+      ∙ firstRow-skip (isLost st) 4 _ (ap not (eq-eqb (st .lost) 0 whole))
       ∙ firstRow-skip (not (eqb (st .out) none)) 12 _ (ap not (eq-eqb (st .out) none out))
       ∙ firstRow-skip (not (rightParity (st .cards) (st .stripes) (st .block) image nothingHeld)) 13 [] (ap not all)
       ∙ (unfold firstRow in refl)
@@ -68,7 +68,7 @@ module _ {w : World} {a : Account} (h : History play w a) (whole : Whole a) (clo
       let sure = history-sure h whole in
       let idle = none-held (w .table) (st .records) (sure .right .table-right) none-open in
       let all = right-intro (st .cards) (st .stripes) (st .block) (w .image) nothingHeld (λ s b hs hb _. parity-right w a sure s hs (idle s) none-out b hb) in
-      e ∙ rw (accepted st (w .image) (sure .right) none-out all)
+      e ∙ rw (accepted st (w .image) (sure .right .limits) (sure .right .image-right) (sure .right .whole) none-out all)
 
 -- and so at the end of a run of the C functions
 pub functions-idle-scan : {w : World} {a : Account} → Run functions w a → Whole a → ((i : ℕ) → ¬ Open a i) → a .state .out ≡ none
