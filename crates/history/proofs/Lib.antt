@@ -43,6 +43,7 @@ pub mod Finish
 pub mod Compute
 pub mod Starred
 pub mod Runs
+pub mod Served
 pub mod Needed
 pub mod Impostors
 pub mod Cheats
