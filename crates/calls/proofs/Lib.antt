@@ -1,5 +1,4 @@
 -- What the walks of the calls share.
 pub mod States
 pub mod Bridge
-pub mod Passing
 pub mod Outcomes

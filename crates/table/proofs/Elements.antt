@@ -30,7 +30,7 @@ use Rattle.record.specs.Life.{free}
 use Rattle.record.specs.declared.Record.{Record}
 use Rattle.record.proofs.Record as T
 use Rattle.record.proofs.Record.Laws as T′
-use Rattle.table.proofs.Lines.{sets}
+use Rattle.walk.proofs.Lines.{sets}
 use Rattle.table.proofs.Records.{vals, mach, tells, makes, copies}
 
 module _ (ℓ : Lifetime) (κ : Lft) (q : Share) (b o : ℕ) (γ : GName) (ys : List Record) where

@@ -45,10 +45,10 @@ use Rattle.geometry.proofs.State.Laws as S′
 use Rattle.record.proofs.Record as T
 use Rattle.record.proofs.Marks as G
 use Rattle.record.proofs.Marks.Laws as G′
-use Rattle.table.proofs.Walk.{From, nil, had, made, calls-of, loops-of, framed}
-use Rattle.table.proofs.Calls.{Told, calls-said}
-use Rattle.table.proofs.Lends.{lend, unlend}
-use Rattle.table.proofs.Readers.{Reader, reads}
+use Rattle.walk.proofs.Walk.{From, nil, had, made, calls-of, loops-of, framed}
+use Rattle.walk.proofs.Calls.{Told, calls-said}
+use Rattle.walk.proofs.Lends.{lend, unlend}
+use Rattle.walk.proofs.Readers.{Reader, reads}
 use Rattle.table.proofs.Records.{vals, mach, tells, makes}
 use Rattle.table.proofs.count as count
 use Rattle.table.proofs.count.Symbol as count-def

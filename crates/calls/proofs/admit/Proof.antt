@@ -49,16 +49,16 @@ use Rattle.array.proofs.admit_marked as core
 use Rattle.array.proofs.admit_marked.Symbol as core-def
 use Rattle.array.proofs.admit_marked.Symbol.{name as #core}
 use Rattle.array.proofs.admit_marked.Met as core-thm
-use Rattle.table.proofs.Locals.{aside, end, full, leaves}
-use Rattle.table.proofs.Lines.{local, sets, lands-in}
-use Rattle.table.proofs.Slices.{reborrows}
-use Rattle.table.proofs.Walk.{Walk, nil, had, made, calls-of, framed, proven, ends}
-use Rattle.table.proofs.Calls.{Told, calls-said}
-use Rattle.table.proofs.Fields.{parts}
+use Rattle.walk.proofs.Locals.{aside, end, full, leaves}
+use Rattle.walk.proofs.Lines.{local, sets, lands-in}
+use Rattle.walk.proofs.Slices.{reborrows}
+use Rattle.walk.proofs.Walk.{Walk, nil, had, made, calls-of, framed, proven, ends}
+use Rattle.walk.proofs.Calls.{Told, calls-said}
+use Rattle.walk.proofs.Fields.{parts}
 use Rattle.table.proofs.Records.{vals}
 use Rattle.table.proofs.Uses.{marks, puts}
 use Rattle.calls.proofs.Bridge.{admit-lent}
-use Rattle.calls.proofs.Passing.{twice, lasting}
+use Rattle.walk.proofs.Passing.{twice, lasting}
 use Rattle.calls.proofs.admit.Key.{name as #admit}
 use Rattle.calls.proofs.admit as admit
 use Rattle.calls.proofs.admit.Statement as stated

@@ -50,16 +50,16 @@ use Rattle.array.proofs.open_sized as core
 use Rattle.array.proofs.open_sized.Symbol as core-def
 use Rattle.array.proofs.open_sized.Symbol.{name as #core}
 use Rattle.array.proofs.open_sized.Met as core-thm
-use Rattle.table.proofs.Locals.{aside, end, full, leaves}
-use Rattle.table.proofs.Lines.{local, sets, lands-in}
-use Rattle.table.proofs.Slices.{reborrows}
-use Rattle.table.proofs.Walk.{Walk, nil, had, made, calls-of, framed, proven, ends}
-use Rattle.table.proofs.Calls.{Told, calls-said}
-use Rattle.table.proofs.Fields.{parts}
+use Rattle.walk.proofs.Locals.{aside, end, full, leaves}
+use Rattle.walk.proofs.Lines.{local, sets, lands-in}
+use Rattle.walk.proofs.Slices.{reborrows}
+use Rattle.walk.proofs.Walk.{Walk, nil, had, made, calls-of, framed, proven, ends}
+use Rattle.walk.proofs.Calls.{Told, calls-said}
+use Rattle.walk.proofs.Fields.{parts}
 use Rattle.table.proofs.Uses.{counts, frees-all}
 use Rattle.calls.specs.Lent.{OpeningLent}
 use Rattle.calls.proofs.Bridge.{open-lent}
-use Rattle.calls.proofs.Passing.{twice}
+use Rattle.walk.proofs.Passing.{twice}
 use Rattle.calls.proofs.is_open as tested
 use Rattle.calls.proofs.is_open.Symbol as tested-def
 use Rattle.calls.proofs.is_open.Symbol.{name as #tested}

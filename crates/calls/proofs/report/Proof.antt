@@ -44,11 +44,11 @@ use Rattle.geometry.proofs.State.report as by-value
 use Rattle.geometry.proofs.State.report.Symbol as by-value-def
 use Rattle.geometry.proofs.State.report.Symbol.{name as #report}
 use Rattle.geometry.proofs.State.report.Met as by-value-thm
-use Rattle.table.proofs.Locals.{aside, end, full, leaves}
-use Rattle.table.proofs.Lines.{local, sets, lands-in}
-use Rattle.table.proofs.Walk.{Walk, nil, had, made, calls-of, framed, proven, ends}
-use Rattle.table.proofs.Calls.{Told, calls-told}
-use Rattle.table.proofs.Fields.{parts}
+use Rattle.walk.proofs.Locals.{aside, end, full, leaves}
+use Rattle.walk.proofs.Lines.{local, sets, lands-in}
+use Rattle.walk.proofs.Walk.{Walk, nil, had, made, calls-of, framed, proven, ends}
+use Rattle.walk.proofs.Calls.{Told, calls-told}
+use Rattle.walk.proofs.Fields.{parts}
 use Rattle.calls.proofs.report.Key.{name as #calls·report}
 use Rattle.calls.proofs.report as report
 use Rattle.calls.proofs.report.Statement as stated

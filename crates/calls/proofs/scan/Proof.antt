@@ -43,16 +43,16 @@ use Rattle.array.proofs.scan_marked as core
 use Rattle.array.proofs.scan_marked.Symbol as core-def
 use Rattle.array.proofs.scan_marked.Symbol.{name as #core}
 use Rattle.array.proofs.scan_marked.Met as core-thm
-use Rattle.table.proofs.Locals.{aside, end, full, leaves}
-use Rattle.table.proofs.Lines.{local, lands-in}
-use Rattle.table.proofs.Walk.{Walk, nil, had, made, calls-of, framed, proven, ends}
-use Rattle.table.proofs.Calls.{Told, calls-said}
-use Rattle.table.proofs.Readers.{reads}
+use Rattle.walk.proofs.Locals.{aside, end, full, leaves}
+use Rattle.walk.proofs.Lines.{local, lands-in}
+use Rattle.walk.proofs.Walk.{Walk, nil, had, made, calls-of, framed, proven, ends}
+use Rattle.walk.proofs.Calls.{Told, calls-said}
+use Rattle.walk.proofs.Readers.{reads}
 use Rattle.table.proofs.marked as marked
 use Rattle.table.proofs.marked.Symbol as marked-def
 use Rattle.table.proofs.marked.Symbol.{name as #marked}
 use Rattle.table.proofs.marked.Met as marked-thm
-use Rattle.calls.proofs.Passing.{twice}
+use Rattle.walk.proofs.Passing.{twice}
 use Rattle.calls.proofs.scan.Key.{name as #scan}
 use Rattle.calls.proofs.scan as scan
 use Rattle.calls.proofs.scan.Statement as stated

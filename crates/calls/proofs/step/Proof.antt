@@ -49,16 +49,16 @@ use Rattle.array.proofs.step_marked as core
 use Rattle.array.proofs.step_marked.Symbol as core-def
 use Rattle.array.proofs.step_marked.Symbol.{name as #core}
 use Rattle.array.proofs.step_marked.Met as core-thm
-use Rattle.table.proofs.Locals.{aside, end, full, leaves}
-use Rattle.table.proofs.Lines.{local, sets, lands-in}
-use Rattle.table.proofs.Slices.{reborrows}
-use Rattle.table.proofs.Walk.{Walk, nil, had, made, calls-of, framed, proven, ends}
-use Rattle.table.proofs.Calls.{Told, calls-said}
-use Rattle.table.proofs.Fields.{parts}
+use Rattle.walk.proofs.Locals.{aside, end, full, leaves}
+use Rattle.walk.proofs.Lines.{local, sets, lands-in}
+use Rattle.walk.proofs.Slices.{reborrows}
+use Rattle.walk.proofs.Walk.{Walk, nil, had, made, calls-of, framed, proven, ends}
+use Rattle.walk.proofs.Calls.{Told, calls-said}
+use Rattle.walk.proofs.Fields.{parts}
 use Rattle.table.proofs.Records.{vals, makes, typed}
 use Rattle.table.proofs.Uses.{marks, picks, puts}
 use Rattle.calls.proofs.Bridge.{step-lent}
-use Rattle.calls.proofs.Passing.{lasting}
+use Rattle.walk.proofs.Passing.{lasting}
 use Rattle.calls.proofs.step.Key.{name as #step}
 use Rattle.calls.proofs.step as step
 use Rattle.calls.proofs.step.Statement as stated

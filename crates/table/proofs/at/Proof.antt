@@ -29,11 +29,11 @@ use denote.Exit.{yes}
 use Rattle.record.specs.Life.{free}
 use Rattle.record.specs.declared.Record.{Record}
 use Rattle.record.proofs.Record as T
-use Rattle.table.proofs.Locals.{envAt, aside, Frees, end, full, room, leaves}
-use Rattle.table.proofs.Lines.{local, sets}
-use Rattle.table.proofs.Slices.{pointer, counted}
+use Rattle.walk.proofs.Locals.{envAt, aside, Frees, end, full, room, leaves}
+use Rattle.walk.proofs.Lines.{local, sets}
+use Rattle.walk.proofs.Slices.{pointer, counted}
 use Rattle.table.proofs.Elements.{copies-at}
-use Rattle.table.proofs.Walk.{Walk, From, nil, had, calls-of, loops-of, proven, ends}
+use Rattle.walk.proofs.Walk.{Walk, From, nil, had, calls-of, loops-of, proven, ends}
 use Rattle.table.proofs.Records.{vals, mach, makes, typed, free-is, zeros, offset-fits}
 use Rattle.table.proofs.at.Key.{name as #table·at}
 use Rattle.table.proofs.at as at

@@ -25,10 +25,10 @@ use denote.Triple.Walked.{Stays, stay-none-slice, walkOf, goes-none-slice}
 use denote.Exit.{yes}
 use Rattle.record.specs.declared.Record.{Record}
 use Rattle.record.proofs.Record as T
-use Rattle.table.proofs.Locals.{Frees, end, full, leaves}
-use Rattle.table.proofs.Lines.{local, sets}
-use Rattle.table.proofs.Slices.{counted}
-use Rattle.table.proofs.Walk.{Walk, From, nil, had, proven, ends}
+use Rattle.walk.proofs.Locals.{Frees, end, full, leaves}
+use Rattle.walk.proofs.Lines.{local, sets}
+use Rattle.walk.proofs.Slices.{counted}
+use Rattle.walk.proofs.Walk.{Walk, From, nil, had, proven, ends}
 use Rattle.table.proofs.count.Key.{name as #table·count}
 use Rattle.table.proofs.count as count
 use Rattle.table.proofs.count.Statement as stated

@@ -34,10 +34,10 @@ use denote.Exit.{yes}
 use Rattle.record.specs.Life.{free}
 use Rattle.record.specs.declared.Record.{Record}
 use Rattle.record.proofs.Record as T
-use Rattle.table.proofs.Locals.{Spots, envAt, holding, aside, Frees, end, full, room, leaves}
-use Rattle.table.proofs.Lines.{local, sets, tests}
-use Rattle.table.proofs.Slices.{pointer, counted}
-use Rattle.table.proofs.Walk.{Walk, From, nil, had, calls-of, loops-of, turns, proven, ends}
+use Rattle.walk.proofs.Locals.{Spots, envAt, holding, aside, Frees, end, full, room, leaves}
+use Rattle.walk.proofs.Lines.{local, sets, tests}
+use Rattle.walk.proofs.Slices.{pointer, counted}
+use Rattle.walk.proofs.Walk.{Walk, From, nil, had, calls-of, loops-of, turns, proven, ends}
 use Rattle.table.proofs.Records.{vals, tells, typed, free-is, zeros, offset-fits}
 use Rattle.table.proofs.Elements.{Own, opens-at, closes-at}
 use Rattle.table.proofs.freed.Key.{name as #table·freed}

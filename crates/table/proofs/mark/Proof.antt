@@ -40,12 +40,12 @@ use Rattle.record.proofs.Record.mark as core
 use Rattle.record.proofs.Record.mark.Symbol as core-def
 use Rattle.record.proofs.Record.mark.Symbol.{name as #core}
 use Rattle.record.proofs.Record.mark.Met as core-thm
-use Rattle.table.proofs.Locals.{envAt, aside, end, full, room, leaves}
-use Rattle.table.proofs.Lines.{local, big, sets, lands-in}
-use Rattle.table.proofs.Slices.{pointer, counted}
+use Rattle.walk.proofs.Locals.{envAt, aside, end, full, room, leaves}
+use Rattle.walk.proofs.Lines.{local, big, sets, lands-in}
+use Rattle.walk.proofs.Slices.{pointer, counted}
 use Rattle.table.proofs.Elements.{copies-at}
-use Rattle.table.proofs.Walk.{Walk, nil, had, made, calls-of, loops-of, framed, proven, ends}
-use Rattle.table.proofs.Calls.{Told, calls-said}
+use Rattle.walk.proofs.Walk.{Walk, nil, had, made, calls-of, loops-of, framed, proven, ends}
+use Rattle.walk.proofs.Calls.{Told, calls-said}
 use Rattle.table.proofs.Records.{vals, makes, typed, offset-fits}
 use Rattle.table.proofs.Marking.{mark-below, mark-past}
 use Rattle.table.proofs.mark.Key.{name as #table·mark}

@@ -43,12 +43,12 @@ use Rattle.geometry.proofs.State.Laws as S′
 use Rattle.record.proofs.Record as T
 use Rattle.record.proofs.Marks as G
 use Rattle.record.proofs.Marks.Laws as G′
-use Rattle.table.proofs.Locals.{Spots, envAt, holding, aside, end, full, room, leaves}
-use Rattle.table.proofs.Lines.{local, big, sets, lands-in, tests}
-use Rattle.table.proofs.Arrays.{elem}
-use Rattle.table.proofs.Walk.{Walk, nil, had, made, calls-of, loops-of, framed, turns, proven, ends}
-use Rattle.table.proofs.Calls.{Told}
-use Rattle.table.proofs.Readers.{reads}
+use Rattle.walk.proofs.Locals.{Spots, envAt, holding, aside, end, full, room, leaves}
+use Rattle.walk.proofs.Lines.{local, big, sets, lands-in, tests}
+use Rattle.walk.proofs.Arrays.{elem}
+use Rattle.walk.proofs.Walk.{Walk, nil, had, made, calls-of, loops-of, framed, turns, proven, ends}
+use Rattle.walk.proofs.Calls.{Told}
+use Rattle.walk.proofs.Readers.{reads}
 use Rattle.table.proofs.Marking.{filled, filled-none, filled-length, filled-more, filled-all, mach-of, marks-is}
 use Rattle.table.proofs.count as count
 use Rattle.table.proofs.count.Symbol as count-def

@@ -30,10 +30,10 @@ use denote.Triple.Walked.{Stays, stay-none, stay-slice, walkOf, goes-none, goes-
 use denote.Exit.{yes}
 use Rattle.record.specs.declared.Record.{Record}
 use Rattle.record.proofs.Record as T
-use Rattle.table.proofs.Locals.{envAt, aside, Frees, end, full, room, leaves}
-use Rattle.table.proofs.Lines.{local, sets}
-use Rattle.table.proofs.Slices.{pointer, counted}
-use Rattle.table.proofs.Walk.{Walk, From, nil, had, calls-of, loops-of, proven, ends}
+use Rattle.walk.proofs.Locals.{envAt, aside, Frees, end, full, room, leaves}
+use Rattle.walk.proofs.Lines.{local, sets}
+use Rattle.walk.proofs.Slices.{pointer, counted}
+use Rattle.walk.proofs.Walk.{Walk, From, nil, had, calls-of, loops-of, proven, ends}
 use Rattle.table.proofs.Records.{vals, tells, typed, offset-fits}
 use Rattle.table.proofs.Elements.{Own, opens-at, closes-at}
 use Rattle.table.proofs.replace.Key.{name as #table·replace}

@@ -40,13 +40,13 @@ use Rattle.geometry.proofs.State.Laws as S′
 use Rattle.record.proofs.Record as T
 use Rattle.array.proofs.answers.Admitted as N
 use Rattle.array.proofs.answers.Admitted.Laws as N′
-use Rattle.table.proofs.Locals.{aside, end, full, leaves}
-use Rattle.table.proofs.Lines.{local, sets, lands-in}
-use Rattle.table.proofs.Slices.{reborrows}
-use Rattle.table.proofs.Walk.{Walk, nil, had, made, calls-of, framed, proven, ends}
-use Rattle.table.proofs.Calls.{Told, calls-said}
+use Rattle.walk.proofs.Locals.{aside, end, full, leaves}
+use Rattle.walk.proofs.Lines.{local, sets, lands-in}
+use Rattle.walk.proofs.Slices.{reborrows}
+use Rattle.walk.proofs.Walk.{Walk, nil, had, made, calls-of, framed, proven, ends}
+use Rattle.walk.proofs.Calls.{Told, calls-said}
 use Rattle.calls.specs.Lent.{AdmissionLent}
-use Rattle.calls.proofs.Passing.{twice, lasting}
+use Rattle.walk.proofs.Passing.{twice, lasting}
 use Rattle.calls.proofs.States.{copies-out}
 use Rattle.calls.proofs.admit as lent
 use Rattle.calls.proofs.admit.Symbol as lent-def

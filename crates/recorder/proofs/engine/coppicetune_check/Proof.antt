@@ -38,11 +38,11 @@ use Rattle.geometry.proofs.State.Laws as S′
 use Rattle.record.proofs.Record as T
 use Rattle.parity.proofs.Scan as N
 use Rattle.parity.proofs.Scan.Laws as N′
-use Rattle.table.proofs.Locals.{aside, end, full, leaves}
-use Rattle.table.proofs.Lines.{local, lands-in}
-use Rattle.table.proofs.Walk.{Walk, nil, had, made, calls-of, framed, proven, ends}
-use Rattle.table.proofs.Calls.{Told, calls-said}
-use Rattle.calls.proofs.Passing.{twice}
+use Rattle.walk.proofs.Locals.{aside, end, full, leaves}
+use Rattle.walk.proofs.Lines.{local, lands-in}
+use Rattle.walk.proofs.Walk.{Walk, nil, had, made, calls-of, framed, proven, ends}
+use Rattle.walk.proofs.Calls.{Told, calls-said}
+use Rattle.walk.proofs.Passing.{twice}
 use Rattle.calls.proofs.States.{copies-out}
 use Rattle.calls.proofs.scan as lent
 use Rattle.calls.proofs.scan.Symbol as lent-def

@@ -38,13 +38,13 @@ use Rattle.geometry.proofs.State.Laws as S′
 use Rattle.record.proofs.Record as T
 use Rattle.array.proofs.answers.Collected as N
 use Rattle.array.proofs.answers.Collected.Laws as N′
-use Rattle.table.proofs.Locals.{aside, end, full, leaves}
-use Rattle.table.proofs.Lines.{local, lands-in}
-use Rattle.table.proofs.Slices.{reborrows}
-use Rattle.table.proofs.Walk.{Walk, nil, had, made, calls-of, framed, proven, ends}
-use Rattle.table.proofs.Calls.{Told, calls-said}
+use Rattle.walk.proofs.Locals.{aside, end, full, leaves}
+use Rattle.walk.proofs.Lines.{local, lands-in}
+use Rattle.walk.proofs.Slices.{reborrows}
+use Rattle.walk.proofs.Walk.{Walk, nil, had, made, calls-of, framed, proven, ends}
+use Rattle.walk.proofs.Calls.{Told, calls-said}
 use Rattle.calls.specs.Lent.{CollectionLent}
-use Rattle.calls.proofs.Passing.{twice, lasting}
+use Rattle.walk.proofs.Passing.{twice, lasting}
 use Rattle.calls.proofs.States.{copies-out}
 use Rattle.calls.proofs.collect as lent
 use Rattle.calls.proofs.collect.Symbol as lent-def

@@ -45,14 +45,14 @@ use Rattle.array.proofs.answers.Opening as O
 use Rattle.array.proofs.answers.Opening.Laws as O′
 use Rattle.array.proofs.answers.Opened as N
 use Rattle.array.proofs.answers.Opened.Laws as N′
-use Rattle.table.proofs.Locals.{aside, end, full, leaves}
-use Rattle.table.proofs.Lines.{local, sets, lands-in}
-use Rattle.table.proofs.Slices.{reborrows}
-use Rattle.table.proofs.Walk.{Walk, nil, had, made, calls-of, framed, proven, ends}
-use Rattle.table.proofs.Calls.{Told, calls-said}
-use Rattle.table.proofs.Fields.{parts}
+use Rattle.walk.proofs.Locals.{aside, end, full, leaves}
+use Rattle.walk.proofs.Lines.{local, sets, lands-in}
+use Rattle.walk.proofs.Slices.{reborrows}
+use Rattle.walk.proofs.Walk.{Walk, nil, had, made, calls-of, framed, proven, ends}
+use Rattle.walk.proofs.Calls.{Told, calls-said}
+use Rattle.walk.proofs.Fields.{parts}
 use Rattle.calls.specs.Lent.{OpeningLent}
-use Rattle.calls.proofs.Passing.{twice, lasting}
+use Rattle.walk.proofs.Passing.{twice, lasting}
 use Rattle.calls.proofs.States.{stores}
 use Rattle.calls.proofs.open as lent
 use Rattle.calls.proofs.open.Symbol as lent-def

@@ -31,10 +31,10 @@ use Rattle.geometry.specs.declared.report.Reported.{Reported}
 use Rattle.geometry.proofs.State as S
 use Rattle.geometry.proofs.report.Reported as N
 use Rattle.geometry.proofs.report.Reported.Laws as N′
-use Rattle.table.proofs.Locals.{aside, end, full, leaves}
-use Rattle.table.proofs.Lines.{local, sets, lands-in}
-use Rattle.table.proofs.Walk.{Walk, nil, had, made, calls-of, framed, proven, ends}
-use Rattle.table.proofs.Calls.{Told, calls-said}
+use Rattle.walk.proofs.Locals.{aside, end, full, leaves}
+use Rattle.walk.proofs.Lines.{local, sets, lands-in}
+use Rattle.walk.proofs.Walk.{Walk, nil, had, made, calls-of, framed, proven, ends}
+use Rattle.walk.proofs.Calls.{Told, calls-said}
 use Rattle.calls.proofs.report as lent
 use Rattle.calls.proofs.report.Symbol as lent-def
 use Rattle.calls.proofs.report.Symbol.{name as #lent}

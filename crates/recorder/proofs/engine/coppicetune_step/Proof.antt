@@ -38,13 +38,13 @@ use Rattle.geometry.proofs.State.Laws as S′
 use Rattle.record.proofs.Record as T
 use Rattle.array.proofs.answers.Stepped as N
 use Rattle.array.proofs.answers.Stepped.Laws as N′
-use Rattle.table.proofs.Locals.{aside, end, full, leaves}
-use Rattle.table.proofs.Lines.{local, lands-in}
-use Rattle.table.proofs.Slices.{reborrows}
-use Rattle.table.proofs.Walk.{Walk, nil, had, made, calls-of, framed, proven, ends}
-use Rattle.table.proofs.Calls.{Told, calls-said}
+use Rattle.walk.proofs.Locals.{aside, end, full, leaves}
+use Rattle.walk.proofs.Lines.{local, lands-in}
+use Rattle.walk.proofs.Slices.{reborrows}
+use Rattle.walk.proofs.Walk.{Walk, nil, had, made, calls-of, framed, proven, ends}
+use Rattle.walk.proofs.Calls.{Told, calls-said}
 use Rattle.calls.specs.Lent.{SteppingLent}
-use Rattle.calls.proofs.Passing.{lasting}
+use Rattle.walk.proofs.Passing.{lasting}
 use Rattle.calls.proofs.States.{copies-out}
 use Rattle.calls.proofs.step as lent
 use Rattle.calls.proofs.step.Symbol as lent-def

@@ -28,7 +28,7 @@ use denote.Triple.Call.{calls-at}
 use denote.Triple.Clauses.{Clauses, Ended, Lasts, atExit, lasts, ensured, closing}
 use denote.Triple.Spec.{tripleOf}
 use denote.Triple.Statement.{Contract, Triple}
-use Rattle.table.proofs.Walk.{tokens, tokens-in, tokens-out, From, from-out}
+use Rattle.walk.proofs.Walk.{tokens, tokens-in, tokens-out, From, from-out}
 
 module _ {M : Type 1} (𝓤 : URA M) (H : Heap 𝓤) (A : Atoms 𝓤) (T : Ended) (c : Clauses 𝓤 T) where
   -- the callee's contract

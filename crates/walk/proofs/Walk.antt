@@ -33,7 +33,7 @@ use denote.Triple.Spec.{Meets, tripleOf}
 use denote.Triple.Table.{entered}
 use denote.Triple.Clauses.{Clauses, Ended, Lasts, atExit, closing}
 use denote.Triple.Walked.{Stays, Fit, hasOf, walkOf, AllGo, ends-at, walked, walk-meets}
-use Rattle.table.proofs.Locals.{Spots, envAt, rooms, enters}
+use Rattle.walk.proofs.Locals.{Spots, envAt, rooms, enters}
 
 module _ {M : Type 1} (𝓤 : URA M) (H : Heap 𝓤) (A : Atoms 𝓤) where
   abbrev pub tokens : (n : ℕ) → Lfts n → Shares n → List (Item 𝓤)

@@ -26,8 +26,8 @@ use denote.Exit.{yes}
 use denote.Triple.End.{Kepts}
 use denote.Triple.Clauses.{Clauses, Ended, Lasts, atExit}
 use denote.Triple.Statement.{Triple}
-use Rattle.table.proofs.Walk.{From, had}
-use Rattle.table.proofs.Calls.{Told, calls-told}
+use Rattle.walk.proofs.Walk.{From, had}
+use Rattle.walk.proofs.Calls.{Told, calls-told}
 
 module _ (X : RattleType) (ps : List (Slot 1)) (ks : Kepts ps) (res : Slot 1) where
   abbrev pub Reader : Ended

@@ -1,0 +1,11 @@
+-- What the walks by hand share, by subject.
+pub mod Locals
+pub mod Lines
+pub mod Walk
+pub mod Calls
+pub mod Lends
+pub mod Readers
+pub mod Fields
+pub mod Slices
+pub mod Arrays
+pub mod Passing
