@@ -1,5 +1,5 @@
 -- What the walks of the table's functions, and of their callers, share.
 pub mod Records
 pub mod Elements
-pub mod Uses
+pub mod Callers
 pub mod Marking

@@ -24,16 +24,7 @@ pub fn at(table: &[Record], i: u64) -> Record
     if i < table.len() as u64 {
         return table[i as usize];
     }
-    Record {
-        phase: 0,
-        write: 0,
-        stripe: 0,
-        mask: 0,
-        graph: 0,
-        chosen: 0,
-        done: 0,
-        count: 0,
-    }
+    record::free()
 }
 
 // The record at i is replaced; past the end nothing is.
@@ -79,18 +70,10 @@ pub fn freed(table: &mut [Record], asked: bool)
     ensures { λ _. ⌜ now (table .exit) ≡ cond asked (replicate (length (now (table .entry))) free) (now (table .entry)) ⌝ }
 {
     if asked {
+        let none = record::free();
         let mut i: usize = 0;
         while i < table.len() {
-            table[i] = Record {
-                phase: 0,
-                write: 0,
-                stripe: 0,
-                mask: 0,
-                graph: 0,
-                chosen: 0,
-                done: 0,
-                count: 0,
-            };
+            table[i] = none;
             i += 1;
         }
     }

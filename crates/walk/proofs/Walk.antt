@@ -1,11 +1,14 @@
--- The two ends of a walk by hand, the same for every function whose contract asks nothing. It says nothing of the crate.
+-- A walk by hand of a function's MIR: what the function is, what it is called with, and the two ends of the walk.
 --     tokens, owneds   a token for each lifetime, and what each parameter owns, each an entry of the context
 --     From P Γ Δ       how P, a list of formulas, comes out of Γ and leaves Δ: `had`, the formula stands at the head; `made`, it is had for nothing
---     Walk             what is to be walked: from the locals' rooms, the tokens and what the parameters own, the body runs to the walk's end
---     calls-of, loops-of, framed       the tables of the function's environment, and that the first is monotone under a frame
---     turns            a loop, by an invariant and a measure
---     proven           the function meets its contract, from such a walk, with the parameters' machine values written out and their relations in hand
---     ends             the walk's end: at a result r, had for nothing, and last values ws, of which the contract's clause holds
+--     Machine          whatever a theorem of the logic is for.        gives, typed, holds      plain data and facts in it
+--     calls-of, loops-of, framed, turns        the tables of an environment; that the first is monotone under a frame; a loop, by an invariant and a measure
+--     Subject, Known   a function's contract, and what is known of its parameters
+--     Entry            what the function is called with, with the relations of the arguments in hand
+--     Walk             what is to be walked: from the locals, with the parameters' values in theirs, the tokens and what the parameters own, the body runs to the walk's end
+--     resumes, Turn    the walk goes on at a later line;  what a turn of a loop is to show
+--     ends             the walk's end: at a result r of plain data, and last values ws, of which the contract's clause holds
+--     proven           the function meets its contract, from such a walk
 -- Assumes `Given`.
 use Prim.Native.Nat.{ℕ, zero, suc, _<_}
 use mathlib.Core.List.{List, [], _∷_, _++_}
@@ -16,24 +19,29 @@ use mir.Syntax.{Name, Fn, Body, loop}
 use mir.Val.{Val}
 use base.Logic.{SProp, ent, sep, emp, id⊢, via, comm∗, assoc∗, assoc′, monoL, monoR, fst∗, emp∗}
 use base.Fml.{Fml, ftrue, fsep, flft}
-use prog.Wp.{Heap, Env, Calls, Loops, WpFn, Closed, afterTurn}
+use prog.Wp.{Heap, Env, Calls, Loops, Wp, WpFn, Closed, afterTurn, afterBlock, afterSeq, atReturn}
 use prog.Model.{Model}
-use prog.Routine.{Env as Env′}
+use prog.Memory.{Memory}
+use prog.Routine.{Routine, Env as Env′}
+use contract.Monad.{Fun, fact, factI}
 use ghost.Atoms.{Atoms, sem}
 use sound.WpLaws.{FmC, fmOf, WpFn-mono}
 use contract.Running.{GhostRules, Running, givenOf, tables, tablesOf}
 use contract.Lifetimes.{Lfts, Shares, AllOutlive, toks}
-use types.Kit.{Given, Item, ‵, raw, mean, ⋆, push, pop, Goal, prop, runs, atRet, params′, Post, post, anyQ, Seq, Sq, _∵_, !, qed, by}
-use types.Run.{Below, loops}
-use denote.RattleType.{RattleType, Denots, Valss, owns, flat}
-use denote.Laws.{Are, Ises, Spells, valss, Tellss}
+use types.Kit.{Given, Item, ‵, raw, mean, ⋆, push, pop, prop, runs, atRet, Post, post, anyQ, Seq, Sq, Step, _∵_, !, qed, by}
+use types.Run.{Below, loops, exec}
+use denote.RattleType.{RattleType, Denots, Valss, mirs, owns, flat}
+use denote.Laws.{Is, Are, Ises, Typed, valss, all-typed}
 use denote.Signature.{Signature, typeAt, typesAt}
-use denote.Triple.Entry.{Args, Res, onEntry}
+use denote.Triple.Entry.{Args, Vals, Res, onEntry}
+use denote.Triple.Statement.{Contract}
 use denote.Triple.Spec.{Meets, tripleOf}
-use denote.Triple.Table.{entered}
+use denote.Triple.Table.{entered as at-entry}
 use denote.Triple.Clauses.{Clauses, Ended, Lasts, atExit, closing}
-use denote.Triple.Walked.{Stays, Fit, hasOf, walkOf, AllGo, ends-at, walked, walk-meets}
-use Rattle.walk.proofs.Locals.{Spots, envAt, rooms, enters}
+use denote.Triple.Walked.{Stays, Fit, hasOf, walkOf, ends-at, walked, walk-meets}
+use Rattle.walk.proofs.Data.{Data}
+use Rattle.walk.proofs.Locals.{Spots, Begins, envAt, entered, enters}
+use Rattle.walk.proofs.Parameters.{Params, stays, spells, tells-all, go-all, lawful-all}
 
 module _ {M : Type 1} (𝓤 : URA M) (H : Heap 𝓤) (A : Atoms 𝓤) where
   abbrev pub tokens : (n : ℕ) → Lfts n → Shares n → List (Item 𝓤)
@@ -71,76 +79,157 @@ module _ {M : Type 1} (𝓤 : URA M) (H : Heap 𝓤) (A : Atoms 𝓤) where
   from-out (had {P} {Q} {Γ} {Δ} f) = via 𝓤 _ (pop 𝓤 H A (‵ P) Γ) (via 𝓤 _ (monoR 𝓤 (sem 𝓤 H A P) (from-out f)) (assoc′ 𝓤 (sem 𝓤 H A P) (sem 𝓤 H A Q) (⋆ 𝓤 H A Δ)))
   from-out (made {P} {Q} {Γ} {Δ} e f) = via 𝓤 _ (emp∗ 𝓤 (⋆ 𝓤 H A Γ)) (via 𝓤 _ (monoL 𝓤 (⋆ 𝓤 H A Γ) e) (via 𝓤 _ (monoR 𝓤 (sem 𝓤 H A P) (from-out f)) (assoc′ 𝓤 (sem 𝓤 H A P) (sem 𝓤 H A Q) (⋆ 𝓤 H A Δ))))
 
-module _ {M : Type 1} (𝓤 : URA M) (H : Heap 𝓤) (A : Atoms 𝓤) (W : Given 𝓤 H A) (T : Ended) (hs : Stays (T .signature .params) (T .kept)) (c : Clauses 𝓤 T) where
-  abbrev S : Signature
-  S = T .signature
+-- ---- the machine, and a function with its contract
 
-  abbrev Ghost : Type 0
-  Ghost = walkOf 𝓤 H A T hs c .Ghost
+pub record Machine : Type 2 where
+  pub M : Type 1
+  pub 𝓤 : URA M
+  pub H : Heap 𝓤
+  pub 𝓜 : Model 𝓤 H
+  pub 𝓖 : GhostRules 𝓤 H
+  pub 𝓡 : Running 𝓤 H 𝓜
 
-  -- the context where the body begins, and the body
-  abbrev Walked : (f : Fn) → Calls 𝓤 H → Loops 𝓤 H → Ghost → Type 1
-  Walked f C Λ y = (l : Spots (f .locals))
-      → Sq W (rooms H A (f .locals) l ++ (tokens 𝓤 H A (S .lifetimes) (y .0 .0) (y .0 .1) ++ owneds 𝓤 H A (typesAt (S .params) (y .0 .0)) (y .0 .3) (y .0 .4)))
-      (params′ (envAt H A (f .locals) l) (flat (typesAt (S .params) (y .0 .0)) (y .0 .4)) (runs C Λ (envAt H A (f .locals) l) (f .body) (atRet (envAt H A (f .locals) l) (walkOf 𝓤 H A T hs c .post y))))
+pub record Subject : Type 2 where
+  pub ended : Ended
+  pub clauses : {M : Type 1} (𝓤 : URA M) (H : Heap 𝓤) → Atoms 𝓤 → (Memory → SProp 𝓤) → (Routine → Fun 𝓤) → Clauses 𝓤 ended
 
-  begins : (f : Fn) (C : Calls 𝓤 H) (Λ : Loops 𝓤 H) (y : Ghost) → Walked f C Λ y
-      → ent 𝓤 (walkOf 𝓤 H A T hs c .pre y) (WpFn 𝓤 H C Λ f (flat (typesAt (S .params) (y .0 .0)) (y .0 .4)) (walkOf 𝓤 H A T hs c .post y))
-  begins f C Λ y k =
-      via 𝓤 _ (fst∗ 𝓤 (onEntry 𝓤 H A S (y .0 .0) (y .0 .1) (y .0 .3) (y .0 .4)) (c (y .0 .0) (y .0 .3) .requires (y .1)))
-      (via 𝓤 _ (monoR 𝓤 (toks 𝓤 A (S .lifetimes) (y .0 .0) (y .0 .1)) (owned-out 𝓤 H A (typesAt (S .params) (y .0 .0)) (y .0 .3) (y .0 .4)))
-      (via 𝓤 _ (tokens-out 𝓤 H A (S .lifetimes) (y .0 .0) (y .0 .1) (owneds 𝓤 H A (typesAt (S .params) (y .0 .0)) (y .0 .3) (y .0 .4)))
-      (qed W (tokens 𝓤 H A (S .lifetimes) (y .0 .0) (y .0 .1) ++ owneds 𝓤 H A (typesAt (S .params) (y .0 .0)) (y .0 .3) (y .0 .4)) ∵ enters ! C Λ f (flat (typesAt (S .params) (y .0 .0)) (y .0 .4)) k)))
+module _ (m : Machine) where
+  abbrev pub A-of : Atoms (m .𝓤)
+  A-of = m .𝓖 .A
 
-  pub ends : (y : Ghost) (v : Val) (r : Res S (y .0 .0)) (ws : Lasts T (y .0 .0) (y .0 .3)) → Fit T hs (y .0 .0) (y .0 .3) ws
-      → ent 𝓤 (emp 𝓤) (c (y .0 .0) (y .0 .3) .ensures (y .1) r (atExit T (y .0 .0) (y .0 .3) ws)) → ent 𝓤 (emp 𝓤) (sem 𝓤 H A (typeAt (S .result) (y .0 .0) .own r (v ∷ [])))
-      → {Γ Δ : List (Item 𝓤)} → From 𝓤 H A (hasOf (y .0 .0) (S .params) (T .kept) hs (y .0 .3) ws (y .0 .4)) Γ Δ
-      → Sq W (tokens 𝓤 H A (S .lifetimes) (y .0 .0) (y .0 .1) ++ Γ) (prop (walkOf 𝓤 H A T hs c .post y v))
-  ends y v r ws fit said res {Γ} {Δ} f =
-      let P : SProp 𝓤 = sem 𝓤 H A (hasOf (y .0 .0) (S .params) (T .kept) hs (y .0 .3) ws (y .0 .4)) in
-      let R : SProp 𝓤 = sem 𝓤 H A (typeAt (S .result) (y .0 .0) .own r (v ∷ [])) in
-      let E : SProp 𝓤 = c (y .0 .0) (y .0 .3) .ensures (y .1) r (atExit T (y .0 .0) (y .0 .3) ws) in
-      let X : SProp 𝓤 = toks 𝓤 A (S .lifetimes) (y .0 .0) (y .0 .1) in
-      by ! (via 𝓤 (sep 𝓤 (sep 𝓤 X (sep 𝓤 P R)) E)
-      (via 𝓤 (sep 𝓤 X (sep 𝓤 P R))
-      (via 𝓤 (sep 𝓤 X P) (via 𝓤 _ (tokens-in 𝓤 H A (S .lifetimes) (y .0 .0) (y .0 .1) Γ) (monoR 𝓤 X (via 𝓤 _ (from-out 𝓤 H A f) (fst∗ 𝓤 P (⋆ 𝓤 H A Δ)))))
-      (monoR 𝓤 X (via 𝓤 _ (emp∗ 𝓤 P) (via 𝓤 _ (comm∗ 𝓤 (emp 𝓤) P) (monoR 𝓤 P res)))))
-      (via 𝓤 _ (emp∗ 𝓤 (sep 𝓤 X (sep 𝓤 P R))) (via 𝓤 _ (comm∗ 𝓤 (emp 𝓤) (sep 𝓤 X (sep 𝓤 P R))) (monoR 𝓤 (sep 𝓤 X (sep 𝓤 P R)) said))))
-      (ends-at 𝓤 H A T hs c W y v r ws fit))
+  abbrev pub given-of : Given (m .𝓤) (m .H) A-of
+  given-of = givenOf (m .𝓤) (m .H) (m .𝓜) (m .𝓖)
 
-module _ {M : Type 1} (𝓤 : URA M) (H : Heap 𝓤) (𝓜 : Model 𝓤 H) (𝓖 : GhostRules 𝓤 H) (𝓡 : Running 𝓤 H 𝓜) (γ : Env′) where
-  abbrev pub calls-of : Calls 𝓤 H
-  calls-of = tables 𝓤 H 𝓜 𝓡 γ .C
+  abbrev pub clauses-of : (F : Subject) → Clauses (m .𝓤) (F .ended)
+  clauses-of F = F .clauses (m .𝓤) (m .H) A-of (m .𝓜 .mem) (m .𝓡 .run)
 
-  abbrev pub loops-of : Loops 𝓤 H
-  loops-of = tables 𝓤 H 𝓜 𝓡 γ .Λ
+  -- what plain data owns is had for nothing, and its machine value has its MIR type
+  pub gives : {R : RattleType} (D : Data R) (r : R .Denot) → Is R r (D .val r ∷ []) → ent (m .𝓤) (emp (m .𝓤)) (sem (m .𝓤) (m .H) A-of (R .own r (D .val r ∷ [])))
+  gives D r is = D .makes (m .𝓤) (m .H) A-of given-of r _ is
 
-  -- the table of calls is monotone under a frame
-  pub framed : FmC 𝓤 H (givenOf 𝓤 H 𝓜 𝓖 .laws) calls-of
-  unfolding tablesOf
-  framed = fmOf 𝓤 H (givenOf 𝓤 H 𝓜 𝓖 .laws) (tablesOf 𝓤 H 𝓜 (tables 𝓤 H 𝓜 𝓡 γ))
+  pub typed : {R : RattleType} (D : Data R) (r : R .Denot) → Is R r (D .val r ∷ []) → Typed (R .mir) (D .val r ∷ [])
+  typed D r is = D .lawful (m .𝓤) (m .H) A-of given-of .typed r _ is
 
-  -- a loop, by an invariant and a measure (`Types/Run.antt`'s `loops`)
-  pub turns : {K : Type 0} {X : Type 0} → K → (μ : X → ℕ) (I : X → List (Item 𝓤)) {E : Env 𝓤 H} {b : Body} {q : Post 𝓤 H}
-      → ((t : X) → Seq K (givenOf 𝓤 H 𝓜 𝓖) (I t) (runs calls-of loops-of E b (anyQ (afterTurn 𝓤 H (Below 𝓤 H (𝓖 .A) (λ (y x : X). μ y < μ x) I t) (post 𝓤 H q)))))
-      → (t : X) → Seq K (givenOf 𝓤 H 𝓜 𝓖) (I t) (runs calls-of loops-of E (loop b) q)
-  unfolding tablesOf
-  turns k μ I turn t = loops k (tablesOf 𝓤 H 𝓜 (tables 𝓤 H 𝓜 𝓡 γ)) (λ y x. μ y < μ x) (InvImage·wf μ (Nat·lt-wfRel .wf)) I turn t
+  -- a fact is had for nothing
+  pub holds : {φ : Type 0} → φ → ent (m .𝓤) (emp (m .𝓤)) (fact (m .𝓤) φ)
+  holds h = factI (m .𝓤) _ (emp (m .𝓤)) h
 
-  module _ (T : Ended) (hs : Stays (T .signature .params) (T .kept)) (c : Clauses 𝓤 T) where
-    -- what is to be walked
-    abbrev pub Walk : Fn → walkOf 𝓤 H (𝓖 .A) T hs c .Ghost → Type 1
-    Walk f y = Walked 𝓤 H (𝓖 .A) (givenOf 𝓤 H 𝓜 𝓖) T hs c f calls-of loops-of y
+  module _ (γ : Env′) where
+    abbrev pub calls-of : Calls (m .𝓤) (m .H)
+    calls-of = tables (m .𝓤) (m .H) (m .𝓜) (m .𝓡) γ .C
 
-    pub proven : (k : Name) (f : Fn) → Closed 𝓤 H calls-of loops-of k f → AllGo 𝓤 H (𝓖 .A) (givenOf 𝓤 H 𝓜 𝓖) (T .signature .lifetimes) (T .signature .params) (T .kept) hs
-        → (sp : (κs : Lfts (T .signature .lifetimes)) → Spells (typesAt (T .signature .params) κs)) → ((κs : Lfts (T .signature .lifetimes)) → Tellss (typesAt (T .signature .params) κs) (Ises (typesAt (T .signature .params) κs)) (sp κs))
-        → ((κs : Lfts (T .signature .lifetimes)) (qs : Shares (T .signature .lifetimes)) (bounds : AllOutlive (T .signature .lifetimes) (T .signature .outlives) κs) (a : Args (T .signature) κs) (g : c κs a .ghost)
-        → Are (typesAt (T .signature .params) κs) (Ises (typesAt (T .signature .params) κs)) a (valss (typesAt (T .signature .params) κs) (sp κs) a)
-        → Walk f ((κs, qs, bounds, a, valss (typesAt (T .signature .params) κs) (sp κs) a), g))
-        → Meets 𝓤 H (𝓖 .A) (T .signature) (calls-of k) (closing 𝓤 H (𝓖 .A) T c)
+    abbrev pub loops-of : Loops (m .𝓤) (m .H)
+    loops-of = tables (m .𝓤) (m .H) (m .𝓜) (m .𝓡) γ .Λ
+
+    -- the table of calls is monotone under a frame
+    pub framed : FmC (m .𝓤) (m .H) (given-of .laws) calls-of
     unfolding tablesOf
-    proven k f closed gs sp tl w =
-        entered 𝓤 H (tripleOf 𝓤 H (𝓖 .A) (T .signature) (closing 𝓤 H (𝓖 .A) T c)) calls-of loops-of k f closed
-        (walk-meets 𝓤 H (𝓖 .A) T hs (givenOf 𝓤 H 𝓜 𝓖) gs c (WpFn 𝓤 H calls-of loops-of f) (WpFn-mono 𝓤 H (givenOf 𝓤 H 𝓜 𝓖 .laws) (tablesOf 𝓤 H 𝓜 (tables 𝓤 H 𝓜 𝓡 γ)) f)
-        (walked 𝓤 H (𝓖 .A) T hs c (WpFn 𝓤 H calls-of loops-of f) sp tl (λ κs qs bounds a g are.
-        begins 𝓤 H (𝓖 .A) (givenOf 𝓤 H 𝓜 𝓖) T hs c f calls-of loops-of ((κs, qs, bounds, a, valss (typesAt (T .signature .params) κs) (sp κs) a), g) (w κs qs bounds a g are))))
+    framed = fmOf (m .𝓤) (m .H) (given-of .laws) (tablesOf (m .𝓤) (m .H) (m .𝓜) (tables (m .𝓤) (m .H) (m .𝓜) (m .𝓡) γ))
+
+    -- a loop, by an invariant and a measure (`Types/Run.antt`'s `loops`)
+    pub turns : {K : Type 0} {X : Type 0} → K → (μ : X → ℕ) (I : X → List (Item (m .𝓤))) {E : Env (m .𝓤) (m .H)} {b : Body} {q : Post (m .𝓤) (m .H)}
+        → ((t : X) → Seq K given-of (I t) (runs calls-of loops-of E b (anyQ (afterTurn (m .𝓤) (m .H) (Below (m .𝓤) (m .H) A-of (λ (y x : X). μ y < μ x) I t) (post (m .𝓤) (m .H) q)))))
+        → (t : X) → Seq K given-of (I t) (runs calls-of loops-of E (loop b) q)
+    unfolding tablesOf
+    turns k μ I turn t = loops k (tablesOf (m .𝓤) (m .H) (m .𝓜) (tables (m .𝓤) (m .H) (m .𝓜) (m .𝓡) γ)) (λ y x. μ y < μ x) (InvImage·wf μ (Nat·lt-wfRel .wf)) I turn t
+
+-- ---- a function's walk
+
+abbrev pub Known : Subject → Type 2
+Known F = Params (F .ended .signature .params) (F .ended .kept)
+
+module _ (m : Machine) (F : Subject) (ps : Known F) where
+  abbrev S : Signature
+  S = F .ended .signature
+
+  abbrev stayed : Stays (S .params) (F .ended .kept)
+  stayed = stays (S .params) (F .ended .kept) ps
+
+  abbrev the-walk : Contract (m .𝓤)
+  the-walk = walkOf (m .𝓤) (m .H) (A-of m) (F .ended) stayed (clauses-of m F)
+
+  -- what the function is called with
+  pub record Entry : Type 2 where
+    pub lfts : Lfts (S .lifetimes)
+    pub shares : Shares (S .lifetimes)
+    pub outlive : AllOutlive (S .lifetimes) (S .outlives) lfts
+    pub args : Args S lfts
+    pub ghosts : clauses-of m F lfts args .ghost
+    pub are : Are (typesAt (S .params) lfts) (Ises (typesAt (S .params) lfts)) args (valss (typesAt (S .params) lfts) (spells (S .params) (F .ended .kept) ps lfts) args)
+
+  module _ (e : Entry) where
+    abbrev pub values : Vals S (e .lfts)
+    values = valss (typesAt (S .params) (e .lfts)) (spells (S .params) (F .ended .kept) ps (e .lfts)) (e .args)
+
+    -- what the triple binds outside, and where the walk ends
+    abbrev bound : the-walk .Ghost
+    bound = ((e .lfts, e .shares, e .outlive, e .args, values), e .ghosts)
+
+    abbrev pub End : Val → SProp (m .𝓤)
+    End = the-walk .post bound
+
+    -- the context where the body begins, and the body
+    abbrev pub Walk : Env′ → Fn → Type 1
+    Walk γ f = (l : Spots (f .locals))
+        → Sq (given-of m) (entered (m .H) (A-of m) (f .locals) l (flat (typesAt (S .params) (e .lfts)) values) ++ (tokens (m .𝓤) (m .H) (A-of m) (S .lifetimes) (e .lfts) (e .shares) ++ owneds (m .𝓤) (m .H) (A-of m) (typesAt (S .params) (e .lfts)) (e .args) values))
+        (runs (calls-of m γ) (loops-of m γ) (envAt (m .H) (A-of m) (f .locals) l) (f .body) (atRet (envAt (m .H) (A-of m) (f .locals) l) End))
+
+    pub ends : (D : Data (typeAt (S .result) (e .lfts))) (r : Res S (e .lfts)) → Is (typeAt (S .result) (e .lfts)) r (D .val r ∷ []) → (ws : Lasts (F .ended) (e .lfts) (e .args)) → Fit (F .ended) stayed (e .lfts) (e .args) ws
+        → ent (m .𝓤) (emp (m .𝓤)) (clauses-of m F (e .lfts) (e .args) .ensures (e .ghosts) r (atExit (F .ended) (e .lfts) (e .args) ws))
+        → {Γ Δ : List (Item (m .𝓤))} → From (m .𝓤) (m .H) (A-of m) (hasOf (e .lfts) (S .params) (F .ended .kept) stayed (e .args) ws values) Γ Δ
+        → Sq (given-of m) (tokens (m .𝓤) (m .H) (A-of m) (S .lifetimes) (e .lfts) (e .shares) ++ Γ) (prop (End (D .val r)))
+    ends D r is ws fit said {Γ} {Δ} f =
+        let P : SProp (m .𝓤) = sem (m .𝓤) (m .H) (A-of m) (hasOf (e .lfts) (S .params) (F .ended .kept) stayed (e .args) ws values) in
+        let R : SProp (m .𝓤) = sem (m .𝓤) (m .H) (A-of m) (typeAt (S .result) (e .lfts) .own r (D .val r ∷ [])) in
+        let Q : SProp (m .𝓤) = clauses-of m F (e .lfts) (e .args) .ensures (e .ghosts) r (atExit (F .ended) (e .lfts) (e .args) ws) in
+        let X : SProp (m .𝓤) = toks (m .𝓤) (A-of m) (S .lifetimes) (e .lfts) (e .shares) in
+        by ! (via (m .𝓤) (sep (m .𝓤) (sep (m .𝓤) X (sep (m .𝓤) P R)) Q)
+        (via (m .𝓤) (sep (m .𝓤) X (sep (m .𝓤) P R))
+        (via (m .𝓤) (sep (m .𝓤) X P) (via (m .𝓤) _ (tokens-in (m .𝓤) (m .H) (A-of m) (S .lifetimes) (e .lfts) (e .shares) Γ) (monoR (m .𝓤) X (via (m .𝓤) _ (from-out (m .𝓤) (m .H) (A-of m) f) (fst∗ (m .𝓤) P (⋆ (m .𝓤) (m .H) (A-of m) Δ)))))
+        (monoR (m .𝓤) X (via (m .𝓤) _ (emp∗ (m .𝓤) P) (via (m .𝓤) _ (comm∗ (m .𝓤) (emp (m .𝓤)) P) (monoR (m .𝓤) P (gives m D r is))))))
+        (via (m .𝓤) _ (emp∗ (m .𝓤) (sep (m .𝓤) X (sep (m .𝓤) P R))) (via (m .𝓤) _ (comm∗ (m .𝓤) (emp (m .𝓤)) (sep (m .𝓤) X (sep (m .𝓤) P R))) (monoR (m .𝓤) (sep (m .𝓤) X (sep (m .𝓤) P R)) said))))
+        (ends-at (m .𝓤) (m .H) (A-of m) (F .ended) stayed (clauses-of m F) (given-of m) bound (D .val r) r ws fit))
+
+    -- the walk goes on at a later line of the body
+    pub resumes : {K : Type 0} {Γ : List (Item (m .𝓤))} → K → (γ : Env′) (f : Fn) (l : Spots (f .locals)) (b : Body)
+        → Step K (given-of m) Γ (runs (calls-of m γ) (loops-of m γ) (envAt (m .H) (A-of m) (f .locals) l) b (atRet (envAt (m .H) (A-of m) (f .locals) l) End))
+        Γ (prop (Wp (m .𝓤) (m .H) (calls-of m γ) (loops-of m γ) (envAt (m .H) (A-of m) (f .locals) l) b (atReturn (m .𝓤) (m .H) (envAt (m .H) (A-of m) (f .locals) l) End)))
+    resumes t γ f l b = exec t (calls-of m γ) (loops-of m γ) (envAt (m .H) (A-of m) (f .locals) l) b (atRet (envAt (m .H) (A-of m) (f .locals) l) End)
+
+    -- a loop that is a block of its own in the body: what follows it, from the line b on, and what a turn of it is to show, by a measure μ and an invariant I
+    module _ (γ : Env′) (f : Fn) (l : Spots (f .locals)) where
+      abbrev follows : Body → Post (m .𝓤) (m .H)
+      follows b = anyQ (afterBlock (m .𝓤) (m .H) (afterSeq (m .𝓤) (m .H) (Wp (m .𝓤) (m .H) (calls-of m γ) (loops-of m γ) (envAt (m .H) (A-of m) (f .locals) l) b (atReturn (m .𝓤) (m .H) (envAt (m .H) (A-of m) (f .locals) l) End)) (atReturn (m .𝓤) (m .H) (envAt (m .H) (A-of m) (f .locals) l) End)))
+
+      abbrev pub Turn : Body → Body → {X : Type 0} (μ : X → ℕ) (I : X → List (Item (m .𝓤))) → X → Type 1
+      Turn a b {X} μ I t = Sq (given-of m) (I t) (runs (calls-of m γ) (loops-of m γ) (envAt (m .H) (A-of m) (f .locals) l) a (anyQ (afterTurn (m .𝓤) (m .H) (Below (m .𝓤) (m .H) (A-of m) (λ (y x : X). μ y < μ x) I t) (post (m .𝓤) (m .H) (follows b)))))
+
+    -- the walk begins
+    begins : (γ : Env′) (f : Fn) → Begins (mirs (typesAt (S .params) (e .lfts))) (f .locals) → Walk γ f
+        → ent (m .𝓤) (the-walk .pre bound) (WpFn (m .𝓤) (m .H) (calls-of m γ) (loops-of m γ) f (flat (typesAt (S .params) (e .lfts)) values) End)
+    begins γ f same k =
+        via (m .𝓤) _ (fst∗ (m .𝓤) (onEntry (m .𝓤) (m .H) (A-of m) S (e .lfts) (e .shares) (e .args) values) (clauses-of m F (e .lfts) (e .args) .requires (e .ghosts)))
+        (via (m .𝓤) _ (monoR (m .𝓤) (toks (m .𝓤) (A-of m) (S .lifetimes) (e .lfts) (e .shares)) (owned-out (m .𝓤) (m .H) (A-of m) (typesAt (S .params) (e .lfts)) (e .args) values))
+        (via (m .𝓤) _ (tokens-out (m .𝓤) (m .H) (A-of m) (S .lifetimes) (e .lfts) (e .shares) (owneds (m .𝓤) (m .H) (A-of m) (typesAt (S .params) (e .lfts)) (e .args) values))
+        (qed (given-of m) (tokens (m .𝓤) (m .H) (A-of m) (S .lifetimes) (e .lfts) (e .shares) ++ owneds (m .𝓤) (m .H) (A-of m) (typesAt (S .params) (e .lfts)) (e .args) values) ∵
+        enters ! (calls-of m γ) (loops-of m γ) f (mirs (typesAt (S .params) (e .lfts))) (flat (typesAt (S .params) (e .lfts)) values) same
+        (all-typed (m .𝓤) (m .H) (A-of m) (typesAt (S .params) (e .lfts)) (lawful-all (m .𝓤) (m .H) (A-of m) (given-of m) (S .params) (F .ended .kept) ps (e .lfts)) (e .args) values (e .are)) k)))
+
+-- a function meets its contract, from its walk
+pub proven : {M : Type 1} (F : Subject) (ps : Known F) (k : Name) (f : Fn) (γ : Env′)
+    → ((M : Type 1) (𝓤 : URA M) (H : Heap 𝓤) (𝓜 : Model 𝓤 H) (𝓡 : Running 𝓤 H 𝓜) → Closed 𝓤 H (tables 𝓤 H 𝓜 𝓡 γ .C) (tables 𝓤 H 𝓜 𝓡 γ .Λ) k f)
+    → ((κs : Lfts (F .ended .signature .lifetimes)) → Begins (mirs (typesAt (F .ended .signature .params) κs)) (f .locals))
+    → ((m : Machine) (e : Entry m F ps) → Walk m F ps e γ f)
+    → (𝓤 : URA M) (H : Heap 𝓤) (𝓜 : Model 𝓤 H) (𝓖 : GhostRules 𝓤 H) (𝓡 : Running 𝓤 H 𝓜)
+    → Meets 𝓤 H (𝓖 .A) (F .ended .signature) (tables 𝓤 H 𝓜 𝓡 γ .C k) (closing 𝓤 H (𝓖 .A) (F .ended) (F .clauses 𝓤 H (𝓖 .A) (𝓜 .mem) (𝓡 .run)))
+unfolding tablesOf
+proven {M} F ps k f γ closed same w 𝓤 H 𝓜 𝓖 𝓡 =
+    let m : Machine = record { M = M; 𝓤 = 𝓤; H = H; 𝓜 = 𝓜; 𝓖 = 𝓖; 𝓡 = 𝓡 } in
+    let S : Signature = F .ended .signature in
+    let c : Clauses 𝓤 (F .ended) = F .clauses 𝓤 H (𝓖 .A) (𝓜 .mem) (𝓡 .run) in
+    at-entry 𝓤 H (tripleOf 𝓤 H (𝓖 .A) S (closing 𝓤 H (𝓖 .A) (F .ended) c)) (calls-of m γ) (loops-of m γ) k f (closed M 𝓤 H 𝓜 𝓡)
+    (walk-meets 𝓤 H (𝓖 .A) (F .ended) (stays (S .params) (F .ended .kept) ps) (given-of m) (go-all 𝓤 H (𝓖 .A) (given-of m) (S .params) (F .ended .kept) ps) c
+    (WpFn 𝓤 H (calls-of m γ) (loops-of m γ) f) (WpFn-mono 𝓤 H (given-of m .laws) (tablesOf 𝓤 H 𝓜 (tables 𝓤 H 𝓜 𝓡 γ)) f)
+    (walked 𝓤 H (𝓖 .A) (F .ended) (stays (S .params) (F .ended .kept) ps) c (WpFn 𝓤 H (calls-of m γ) (loops-of m γ) f) (spells (S .params) (F .ended .kept) ps) (tells-all (S .params) (F .ended .kept) ps) (λ κs qs bounds a g are.
+    let e : Entry m F ps = record { lfts = κs; shares = qs; outlive = bounds; args = a; ghosts = g; are = are } in
+    begins m F ps e γ f (same κs) (w m e))))
