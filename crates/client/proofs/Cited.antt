@@ -83,7 +83,7 @@ module _ {M : Type 1} (𝓤 : URA M) (H : Heap 𝓤) (𝓜 : Model 𝓤 H) (𝓖
   pub c-open-cited : Says c-open.ended (c-open.clauses 𝓤 H (𝓖 .A) (𝓜 .mem) (𝓡 .run)) (λ κs (state, (table, (work, (image, (cards, (stripes, (block, (records, (out, _))))))))) (state′, (table′, (_, (_, (_, (_, (_, (_, (_, _))))))))) r.
       OpenedByFunction (record { cards = cards; stripes = stripes; block = block; records = records }) out (table .now) (work .now) (image .now)
       (record { reply = unpacked r; state = state′; table = table′ }))
-  c-open-cited κs a ws r g = fact-mono 𝓤 _ _ (λ h. function.opens _ _ _ h)
+  c-open-cited κs a ws r g = fact-mono 𝓤 _ _ (λ h. function.opens _ _ _ _ h)
 
   pub c-admit-cited : Says c-admit.ended (c-admit.clauses 𝓤 H (𝓖 .A) (𝓜 .mem) (𝓡 .run)) (λ κs (state, (table, (work, (image, (write, (s, (mask, (payload, _)))))))) (_, (table′, (work′, (_, (_, (_, (_, (_, _)))))))) r.
       ByFunctions (lent (state .now) (table .now) (work .now) (image .now)) (event.admit (not (eqb write 0)) s mask (payload .now)) (left (unpacked r) (state .now) table′ work′ (image .now) []))

@@ -2,7 +2,7 @@
 -- Assumes nothing.
 use Prim.Native.Nat.{ℕ}
 use mathlib.Core.List.{List}
-use mathlib.Core.Path.{_≡_, refl, ap, _∙_}
+use mathlib.Core.Path.{_≡_, refl, sym, ap, _∙_}
 use Rattle.terms.specs.Reply.{Reply}
 use Rattle.geometry.specs.declared.Geometry.{Geometry}
 use Rattle.geometry.specs.declared.State.{State}
@@ -69,5 +69,7 @@ module _ {g : Geometry} {out : ℕ} {table : List Record} {work image : List ℕ
       opening-parts (λ r s t. record { reply = r; state = s; table = t }) (h .reply) (h .new-state) (h .table-left)
 
   pub function-opens : {o : Opening} → OpenedByFunction g out table work image o → o .reply .number ≡ 0 → o ≡ opening g out table work image
-  function-opens (function.opens answer state table′ h) ok =
-      opening-parts (λ r s t. record { reply = r; state = s; table = t }) (read (open-room _ _ _ _ _) (h .answered)) (h .new-state) (h .table-left)
+  function-opens (function.opens old answer state table′ h) ok =
+      let same : unpacked answer ≡ opening g out table work image .reply = read (open-room _ _ _ _ _) (h .answered) in
+      let number : opening g out table work image .reply .number ≡ 0 = ap (λ (r : Reply). r .number) (sym same) ∙ ok in
+      opening-parts (λ r s t. record { reply = r; state = s; table = t }) same (h .state-left ∙ rw number) (h .table-left)

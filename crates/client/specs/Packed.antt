@@ -25,9 +25,9 @@ use Rattle.client.specs.Lent.{left}
 unfoldable pub unpacked : ℕ → Reply
 unpacked p = record { number = p % 2 ^ 16; first = p / 2 ^ 16 % 2 ^ 16; second = p / 2 ^ 32 }
 
--- an opening's outcome that the contract of coppicetune_open allows
+-- an opening's outcome that the contract of coppicetune_open allows, whatever old state stands where the new one goes
 pub data OpenedByFunction (g : Geometry) (out : ℕ) (table : List Record) (work image : List ℕ) : Opening → Type 0 where
-  opens : (answer : ℕ) (state : State) (table′ : List Record) → OpeningPacked (opening g out table work image) answer state table′
+  opens : (old : State) (answer : ℕ) (state : State) (table′ : List Record) → OpeningPacked (opening g out table work image) old answer state table′
       → OpenedByFunction g out table work image (record { reply = unpacked answer; state = state; table = table′ })
 
 -- an event's outcome that the contract of its function allows. A write is asked for by any number but 0
