@@ -7,3 +7,4 @@ pub mod Promise
 pub mod Serial
 pub mod Answers
 pub mod Examples
+pub mod Starred
