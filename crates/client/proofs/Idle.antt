@@ -29,7 +29,7 @@ use Rattle.history.specs.Promise.{Open, Keeps}
 use Rattle.history.specs.World.{World, recordAt, play}
 use Rattle.recorder.specs.Packing.{packed}
 use Rattle.client.specs.Run.{functions, Run}
-use Rattle.client.proofs.Runs.{functions-fixed, is-history}
+use Rattle.client.proofs.Runs.{functions-history}
 
 -- where no record is open, no stripe is held
 none-held : (table : List Record) (K : ℕ) → length table ≡ K → ((i : ℕ) → i < K → isOpen (getD table i free) ≡ false) → (s : ℕ) → held table s ≡ false
@@ -73,4 +73,4 @@ module _ {w : World} {a : Account} (h : History play w a) (whole : Whole a) (clo
 -- and so at the end of a run of the C functions
 pub functions-idle-scan : {w : World} {a : Account} → Run functions w a → Whole a → ((i : ℕ) → ¬ Open a i) → a .state .out ≡ none
     → (answer : ℕ) → answer ≡ packed (idleScanReply (w .state) (w .image)) → answer ≡ 0
-functions-idle-scan r = idle-scan (is-history functions-fixed r .history)
+functions-idle-scan r = idle-scan (functions-history r .history)

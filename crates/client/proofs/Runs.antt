@@ -12,7 +12,7 @@ use Rattle.history.specs.History.{History, openedWorld, openedAccount}
 use Rattle.history.specs.History as history
 use Rattle.history.specs.Serial.{Seen, firstOf, seenOf}
 use Rattle.history.specs.World.{World, Event, Outcome, play}
-use Rattle.client.specs.Run.{Contracts, calls, functions, Run, opened, next, decayed}
+use Rattle.client.specs.Run.{Contracts, calls, functions, Run, opened, next, decayed, IsHistory}
 use Rattle.client.specs.Run as run
 use Rattle.client.proofs.Plays.{call-plays, call-opens, function-plays, function-opens}
 
@@ -27,12 +27,6 @@ calls-fixed = record { opens-so = call-opens; plays-so = call-plays }
 
 pub functions-fixed : Fixed functions
 functions-fixed = record { opens-so = function-opens; plays-so = function-plays }
-
--- a run and a history with the same worlds, the same account, and the same calls and outcomes
-pub record IsHistory {by : Contracts} {w : World} {a : Account} (r : Run by w a) : Type 0 where
-  pub history : History play w a
-  pub same-first : firstOf history ≡ run.firstOf r
-  pub same-seen : seenOf history ≡ run.seenOf r
 
 module _ {by : Contracts} (fixed : Fixed by) where
   pub is-history : {w : World} {a : Account} (r : Run by w a) → IsHistory r
@@ -55,3 +49,9 @@ module _ {by : Contracts} (fixed : Fixed by) where
   is-history (decayed r image d) =
       let before = is-history r in
       record { history = history.decayed (before .history) image d; same-first = before .same-first; same-seen = before .same-seen }
+
+pub calls-history : {w : World} {a : Account} (r : Run calls w a) → IsHistory r
+calls-history = is-history calls-fixed
+
+pub functions-history : {w : World} {a : Account} (r : Run functions w a) → IsHistory r
+functions-history = is-history functions-fixed

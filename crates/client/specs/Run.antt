@@ -8,9 +8,9 @@ use Rattle.geometry.specs.declared.Geometry.{Geometry}
 use Rattle.record.specs.declared.Record.{Record}
 use Rattle.array.specs.Opening.{Opening}
 use Rattle.history.specs.Account.{Account, entered}
-use Rattle.history.specs.History.{Decayed, openedAccount}
-use Rattle.history.specs.Serial.{Seen}
-use Rattle.history.specs.World.{World, Event, Outcome, Engine, withImage}
+use Rattle.history.specs.History.{Decayed, History, openedAccount}
+use Rattle.history.specs.Serial.{Seen, firstOf as firstOfHistory, seenOf as seenOfHistory}
+use Rattle.history.specs.World.{World, Event, Outcome, Engine, play, withImage}
 use Rattle.client.specs.Lent.{OpenedByCall, ByCalls}
 use Rattle.client.specs.Packed.{OpenedByFunction, ByFunctions}
 
@@ -47,6 +47,12 @@ unfoldable pub seenOf : {by : Contracts} {w : World} {a : Account} → Run by w 
 seenOf (opened g out table work image o h ok) = []
 seenOf (next {w} {a} r e o h) = record { account = a; event = e; outcome = o } ∷ seenOf r
 seenOf (decayed r image d) = seenOf r
+
+-- a run is a history of `play`: with the same worlds and account, the same account at the start, and the same calls with the same outcomes
+pub record IsHistory {by : Contracts} {w : World} {a : Account} (r : Run by w a) : Type 0 where
+  pub history : History play w a
+  pub same-first : firstOfHistory history ≡ firstOf r
+  pub same-seen : seenOfHistory history ≡ seenOf r
 
 -- an engine that meets the contracts: each of its outcomes is one that they allow
 unfoldable pub Meets : Contracts → Engine → Type 0
