@@ -28,7 +28,7 @@ use table::marked;
 use table::replace;
 
 // Whether an opening is accepted.
-fn is_open(answer: Opened) -> bool
+pub fn is_open(answer: Opened) -> bool
     ensures { λ r. ⌜ r ≡ eqb (openedReply answer .number) 0 ⌝ }
 {
     match answer {

@@ -38,11 +38,13 @@ pub mod Alikes
 pub mod Independent
 -- The theorems
 pub mod Demand3
+pub mod Serial
 pub mod Finish
 -- Shown by computation
 pub mod Compute
 pub mod Starred
 pub mod Runs
+pub mod Served
 pub mod Needed
 pub mod Impostors
 pub mod Cheats

@@ -28,11 +28,11 @@ start = opened 4 2 255 image4
 abbrev pub book : Account
 book = openedBook 4 2 255 image4
 
-pub begun : (engine : Engine) → History engine start book
+unfoldable pub begun : (engine : Engine) → History engine start book
 unfolding computed openedBook
 begun engine = begin (small 4 2) 255 (replicate 2 free) (replicate 256 0) image4 refl
 
-pub run : (engine : Engine) (es : List Event) {w : World} {a : Account} → History engine w a → History engine (after engine w es) (kept engine w a es)
+unfoldable pub run : (engine : Engine) (es : List Event) {w : World} {a : Account} → History engine w a → History engine (after engine w es) (kept engine w a es)
 unfolding after kept
 run engine [] h = h
 run engine (e ∷ es) h = run engine es (next h e)

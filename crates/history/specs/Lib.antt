@@ -4,6 +4,7 @@ pub mod Row
 pub mod Account
 pub mod History
 pub mod Promise
+pub mod Serial
 pub mod Answers
 pub mod Examples
 pub mod Starred

@@ -12,8 +12,8 @@ use Rattle.array.specs.Opening.{Opening}
 use Rattle.array.specs.Stepping.{Stepping}
 use Rattle.recorder.specs.Engine.{OpeningPacked, AdmissionPacked, SteppingPacked, ReportingPacked, CollectionPacked}
 
-module _ {d : Opening} {a b : ℕ} {s z : State} {t u : List Record} where
-  pub open-one : OpeningPacked d a s t → OpeningPacked d b z u → (a ≡ b) × (s ≡ z) × (t ≡ u)
+module _ {d : Opening} {old : State} {a b : ℕ} {s z : State} {t u : List Record} where
+  pub open-one : OpeningPacked d old a s t → OpeningPacked d old b z u → (a ≡ b) × (s ≡ z) × (t ≡ u)
   open-one p q = (cc, cc, cc)
 
 module _ {d : Admission} {a b : ℕ} {t u : List Record} {v w : List ℕ} where

@@ -3,6 +3,7 @@
 use Prim.Native.Nat.{ℕ}
 use mathlib.Core.List.{List}
 use mathlib.Core.Path.{_≡_}
+use Rattle.terms.specs.Reply.{onAccept}
 use Rattle.geometry.specs.Report.{Reporting}
 use Rattle.geometry.specs.declared.State.{State}
 use Rattle.record.specs.declared.Record.{Record}
@@ -12,10 +13,10 @@ use Rattle.array.specs.Opening.{Opening}
 use Rattle.array.specs.Stepping.{Stepping}
 use Rattle.recorder.specs.Packing.{packed}
 
--- open: the new state goes where the caller's stood
-pub record OpeningPacked (d : Opening) (answer : ℕ) (state : State) (table : List Record) : Type 0 where
+-- open: the new state goes where the caller's old one stood, which a refusal leaves
+pub record OpeningPacked (d : Opening) (old : State) (answer : ℕ) (state : State) (table : List Record) : Type 0 where
   pub answered : answer ≡ packed (d .reply)
-  pub new-state : state ≡ d .state
+  pub state-left : state ≡ onAccept (d .reply .number) (d .state) old
   pub table-left : table ≡ d .table
 
 pub record AdmissionPacked (d : Admission) (answer : ℕ) (table : List Record) (work : List ℕ) : Type 0 where

@@ -3,7 +3,9 @@
 ghost use mathlib.Core.Bool.{not};
 ghost use mathlib.Core.Path.{_≡_};
 ghost use lib.Dec.{eqb};
+ghost use Rattle.terms.specs.Reply.{onAccept};
 ghost use Rattle.array.specs.Admission.{admission};
+ghost use Rattle.array.specs.Answers.{openedReply};
 ghost use Rattle.array.specs.Collection.{collection};
 ghost use Rattle.array.specs.Opening.{opening};
 ghost use Rattle.array.specs.Scan.{scanReply};
@@ -17,11 +19,22 @@ use crate::packing::opened;
 use crate::packing::reported;
 use crate::packing::scanned;
 use crate::packing::stepped;
+use array::answers::Opened;
 use geometry::Geometry;
 use geometry::State;
 use record::Record;
 
-// Opens an array, and hands the new state out, all zero if refused. Accepted, it frees every record.
+// The state that an opening leaves: the new one, or the old one where it is refused.
+fn state_left(answer: Opened, new: State, old: State) -> State
+    ensures { λ r. ⌜ r ≡ onAccept (openedReply answer .number) new old ⌝ }
+{
+    if calls::is_open(answer) {
+        return new;
+    }
+    old
+}
+
+// Opens an array: the new state goes where the caller's stood, and every record is freed. Refused, it leaves both as they were.
 #[no_mangle]
 pub extern "C" fn coppicetune_open(
     state: &mut State,
@@ -34,7 +47,7 @@ pub extern "C" fn coppicetune_open(
     records: u64,
     out: u64,
 ) -> u64
-    ensures { λ r. ⌜ OpeningPacked (opening (record { cards = cards; stripes = stripes; block = block; records = records }) out (now (table .entry)) (now (work .entry)) (now (image .entry))) r (now (state .exit)) (now (table .exit)) ⌝ }
+    ensures { λ r. ⌜ OpeningPacked (opening (record { cards = cards; stripes = stripes; block = block; records = records }) out (now (table .entry)) (now (work .entry)) (now (image .entry))) (now (state .entry)) r (now (state .exit)) (now (table .exit)) ⌝ }
 {
     let geometry = Geometry {
         cards,
@@ -42,8 +55,10 @@ pub extern "C" fn coppicetune_open(
         block,
         records,
     };
+    let old = *state;
     let made = calls::open(geometry, out, table, work, image);
-    *state = made.state;
+    let left = state_left(made.answer, made.state, old);
+    *state = left;
     opened(made.answer)
 }
 

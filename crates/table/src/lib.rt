@@ -1,16 +1,14 @@
-// The table of request records as the caller lends it: thin functions that count it, read one record or eight, mark them, replace one and free all.
+// The table of request records as the caller lends it: thin functions that count it, read one record, mark them, replace one and free all.
 // Assumes nothing.
 ghost use mathlib.Core.Path.{_≡_};
 ghost use lib.ListN.{length, getD, set, replicate};
 ghost use mathlib.Core.Bool.{cond};
 ghost use Rattle.record.specs.Life.{free};
 ghost use Rattle.record.specs.Marks.{markIn, marksOf};
-ghost use Rattle.table.specs.Copy.{copyOf};
 use geometry::NO_STRIPE;
 use geometry::State;
 use record::Marks;
 use record::Record;
-use record::Table;
 
 // How many records the table has.
 pub fn count(table: &[Record]) -> u64
@@ -26,16 +24,7 @@ pub fn at(table: &[Record], i: u64) -> Record
     if i < table.len() as u64 {
         return table[i as usize];
     }
-    Record {
-        phase: 0,
-        write: 0,
-        stripe: 0,
-        mask: 0,
-        graph: 0,
-        chosen: 0,
-        done: 0,
-        count: 0,
-    }
+    record::free()
 }
 
 // The record at i is replaced; past the end nothing is.
@@ -44,25 +33,6 @@ pub fn replace(table: &mut [Record], i: u64, r: Record)
 {
     if i < table.len() as u64 {
         table[i as usize] = r;
-    }
-}
-
-// The table by value: K is at most 8, and a table of another length is refused by its length alone.
-pub fn copied(table: &[Record]) -> Table
-    ensures { λ r. ⌜ r ≡ copyOf (now (table .entry)) ⌝ }
-{
-    let n = count(table);
-    let r0 = at(table, 0);
-    let r1 = at(table, 1);
-    let r2 = at(table, 2);
-    let r3 = at(table, 3);
-    let r4 = at(table, 4);
-    let r5 = at(table, 5);
-    let r6 = at(table, 6);
-    let r7 = at(table, 7);
-    Table {
-        records: [r0, r1, r2, r3, r4, r5, r6, r7],
-        len: n,
     }
 }
 
@@ -100,18 +70,10 @@ pub fn freed(table: &mut [Record], asked: bool)
     ensures { λ _. ⌜ now (table .exit) ≡ cond asked (replicate (length (now (table .entry))) free) (now (table .entry)) ⌝ }
 {
     if asked {
+        let none = record::free();
         let mut i: usize = 0;
         while i < table.len() {
-            table[i] = Record {
-                phase: 0,
-                write: 0,
-                stripe: 0,
-                mask: 0,
-                graph: 0,
-                chosen: 0,
-                done: 0,
-                count: 0,
-            };
+            table[i] = none;
             i += 1;
         }
     }

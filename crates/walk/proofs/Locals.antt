@@ -1,11 +1,12 @@
 -- A function's locals, all at once: at entry they are allocated, in their order, and at exit they are freed. It says nothing of the crate.
---     enters       the walk of a function begins: local i stands at 2 · i of the context, as room, and what frees it stands behind it
+--     enters       the walk of a function begins: local i stands at 2 · i of the context, and what frees it stands behind it; the parameters' values are in the locals after the first, and the others are room
+--     Begins τs ls     the locals ls have types τs from the second on: a `refl` at a function that is written out
 --     holding      the same entries where each local holds nothing or a value: what a loop's invariant is written with
 --     Frees        what the context has of the locals at exit, local by local: `full`, something lies there, or `room`, nothing does
 --     leaves       the locals are freed, and the rest of the context is left
 --     aside        the first n entries of the context go behind the others
 -- Assumes `Given`.
-use mathlib.Core.Path.{refl}
+use mathlib.Core.Path.{_≡_, refl, subst}
 use Prim.Native.Nat.{ℕ, zero, suc}
 use mathlib.Core.List.{List, [], _∷_, _++_}
 use mathlib.Core.Option.{Option, none, some}
@@ -17,8 +18,9 @@ use base.Logic.{SProp, ent, sep, id⊢, via, comm∗, assoc∗, assoc′, monoL,
 use base.Fml.{fat, froom, fdies}
 use prog.Wp.{Heap, Env, Calls, Loops, WpFn}
 use ghost.Atoms.{Atoms}
-use types.Kit.{Given, Item, ‵, mean, ⋆, push, pop, ++⊢, Goal, prop, runs, atRet, allocs, params′, frees, Seq, Step, step, _$_, by}
-use types.Run.{forget, enter, alloc1, alloc0, free1, free0}
+use types.Kit.{Given, Item, ‵, mean, ⋆, push, pop, ++⊢, Goal, prop, runs, atRet, allocs, params′, passes, frees, Seq, Step, step, _$_, by}
+use types.Run.{forget, enter, alloc1, alloc0, params1, pass1, pass0, init, free1, free0}
+use denote.Laws.{Typed}
 
 -- an address for each local
 abbrev pub Spots : List Local → Type 0
@@ -44,7 +46,17 @@ module _ {M : Type 1} {𝓤 : URA M} (H : Heap 𝓤) (A : Atoms 𝓤) where
   holding (l ∷ ls) bs [] = []
   holding (local τ h ∷ ls) bs (v ∷ vs) = held τ (bs .0) v ∷ ‵ (fdies τ (bs .0)) ∷ holding ls (bs .1) vs
 
-  -- an entry behind others comes before them
+  -- the same with values in the first of them, and with values in the first of those after one that has none
+  abbrev pub filled : (ls : List Local) → Spots ls → List Val → List (Item 𝓤)
+  filled [] bs vs = []
+  filled (local τ h ∷ ls) bs [] = rooms (local τ h ∷ ls) bs
+  filled (local τ h ∷ ls) bs (v ∷ vs) = ‵ (fat fullShare τ (bs .0) zero v) ∷ ‵ (fdies τ (bs .0)) ∷ filled ls (bs .1) vs
+
+  abbrev pub entered : (ls : List Local) → Spots ls → List Val → List (Item 𝓤)
+  entered [] bs vs = []
+  entered (local τ h ∷ ls) bs vs = ‵ (froom τ (bs .0) zero) ∷ ‵ (fdies τ (bs .0)) ∷ filled ls (bs .1) vs
+
+  -- an entry behind others comes before them, and one before others goes behind them
   bring : (Δ : List (Item 𝓤)) (i : Item 𝓤) (Γ : List (Item 𝓤)) → ent 𝓤 (⋆ 𝓤 H A (Δ ++ (i ∷ Γ))) (⋆ 𝓤 H A (i ∷ (Δ ++ Γ)))
   bring [] i Γ = id⊢ 𝓤 _
   bring (d ∷ Δ) i Γ =
@@ -58,6 +70,20 @@ module _ {M : Type 1} {𝓤 : URA M} (H : Heap 𝓤) (A : Atoms 𝓤) where
   bring2 : (Δ : List (Item 𝓤)) (i j : Item 𝓤) (Γ : List (Item 𝓤)) → ent 𝓤 (⋆ 𝓤 H A (Δ ++ (i ∷ j ∷ Γ))) (⋆ 𝓤 H A (i ∷ j ∷ (Δ ++ Γ)))
   bring2 Δ i j Γ = via 𝓤 _ (bring Δ i (j ∷ Γ)) (via 𝓤 _ (pop 𝓤 H A i (Δ ++ (j ∷ Γ))) (via 𝓤 _ (monoR 𝓤 (mean 𝓤 H A i) (bring Δ j Γ)) (push 𝓤 H A i (j ∷ (Δ ++ Γ)))))
 
+  send : (Δ : List (Item 𝓤)) (i : Item 𝓤) (Γ : List (Item 𝓤)) → ent 𝓤 (⋆ 𝓤 H A (i ∷ (Δ ++ Γ))) (⋆ 𝓤 H A (Δ ++ (i ∷ Γ)))
+  send [] i Γ = id⊢ 𝓤 _
+  send (d ∷ Δ) i Γ =
+      let D : SProp 𝓤 = mean 𝓤 H A d in
+      let I : SProp 𝓤 = mean 𝓤 H A i in
+      via 𝓤 (sep 𝓤 I (sep 𝓤 D (⋆ 𝓤 H A (Δ ++ Γ)))) (via 𝓤 _ (pop 𝓤 H A i (d ∷ (Δ ++ Γ))) (monoR 𝓤 I (pop 𝓤 H A d (Δ ++ Γ))))
+      (via 𝓤 (sep 𝓤 (sep 𝓤 I D) (⋆ 𝓤 H A (Δ ++ Γ))) (assoc′ 𝓤 I D (⋆ 𝓤 H A (Δ ++ Γ)))
+      (via 𝓤 (sep 𝓤 (sep 𝓤 D I) (⋆ 𝓤 H A (Δ ++ Γ))) (monoL 𝓤 (⋆ 𝓤 H A (Δ ++ Γ)) (comm∗ 𝓤 I D))
+      (via 𝓤 (sep 𝓤 D (sep 𝓤 I (⋆ 𝓤 H A (Δ ++ Γ)))) (assoc∗ 𝓤 D I (⋆ 𝓤 H A (Δ ++ Γ)))
+      (via 𝓤 (sep 𝓤 D (⋆ 𝓤 H A (Δ ++ (i ∷ Γ)))) (monoR 𝓤 D (via 𝓤 _ (push 𝓤 H A i (Δ ++ Γ)) (send Δ i Γ))) (push 𝓤 H A d (Δ ++ (i ∷ Γ)))))))
+
+  send2 : (Δ : List (Item 𝓤)) (i j : Item 𝓤) (Γ : List (Item 𝓤)) → ent 𝓤 (⋆ 𝓤 H A (i ∷ j ∷ (Δ ++ Γ))) (⋆ 𝓤 H A (Δ ++ (i ∷ j ∷ Γ)))
+  send2 Δ i j Γ = via 𝓤 _ (via 𝓤 _ (pop 𝓤 H A i (j ∷ (Δ ++ Γ))) (via 𝓤 _ (monoR 𝓤 (mean 𝓤 H A i) (send Δ j Γ)) (push 𝓤 H A i (Δ ++ (j ∷ Γ))))) (send Δ i (j ∷ Γ))
+
   abbrev pub turned : ℕ → List (Item 𝓤) → List (Item 𝓤)
   turned zero Γ = Γ
   turned (suc n) [] = []
@@ -67,6 +93,16 @@ module _ {M : Type 1} {𝓤 : URA M} (H : Heap 𝓤) (A : Atoms 𝓤) where
   turn zero Γ = id⊢ 𝓤 _
   turn (suc n) [] = id⊢ 𝓤 _
   turn (suc n) (i ∷ Γ) = via 𝓤 _ (pop 𝓤 H A i Γ) (via 𝓤 _ (comm∗ 𝓤 (mean 𝓤 H A i) (⋆ 𝓤 H A Γ)) (via 𝓤 _ (++⊢ 𝓤 H A Γ (i ∷ [])) (turn n (Γ ++ (i ∷ [])))))
+
+-- the types of as many locals as the list has
+abbrev types-of : List Ty → List Local → List Ty
+types-of [] ls = []
+types-of (τ ∷ τs) [] = []
+types-of (τ ∷ τs) (local σ h ∷ ls) = σ ∷ types-of τs ls
+
+abbrev pub Begins : List Ty → List Local → Type 0
+Begins τs [] = ⊥
+Begins τs (l ∷ ls) = τs ≡ types-of τs ls
 
 module _ {M : Type 1} {𝓤 : URA M} {H : Heap 𝓤} {A : Atoms 𝓤} {K : Type 0} {W : Given 𝓤 H A} where
   -- the first n entries go behind the others
@@ -78,11 +114,34 @@ module _ {M : Type 1} {𝓤 : URA M} {H : Heap 𝓤} {A : Atoms 𝓤} {K : Type 
   allocated t {Γ} (local τ h ∷ ls) Kt k = alloc1 t (λ b. allocated t ls (λ E. Kt ((τ, b) ∷ E)) (λ bs. by t
       (via 𝓤 _ (bring2 H A (rooms H A ls bs) (‵ (froom τ b zero)) (‵ (fdies τ b)) Γ) (k (b, bs) .prf))))
 
+  -- the parameters' values are stored
+  stored : K → (Γ : List (Item 𝓤)) (g : Goal 𝓤 H) (τs : List Ty) (ls : List Local) (bs : Spots ls) (vs : List Val) → Typed (types-of τs ls) vs → Seq K W (filled H A ls bs vs ++ Γ) g → Seq K W (rooms H A ls bs ++ Γ) (passes (envAt H A ls bs) vs g)
+  stored t Γ g [] [] bs [] ty k = pass0 t $ k
+  stored t Γ g [] (local σ h ∷ ls) bs [] ty k = pass0 t $ k
+  stored t Γ g [] ls bs (v ∷ vs) ty k = absurd ty
+  stored t Γ g (τ ∷ τs) [] bs [] ty k = pass0 t $ k
+  stored t Γ g (τ ∷ τs) [] bs (v ∷ vs) ty k = absurd ty
+  stored t Γ g (τ ∷ τs) (local σ h ∷ ls) bs [] ty k = absurd ty
+  stored t Γ g (τ ∷ τs) (local σ h ∷ ls) bs (v ∷ vs) ty k =
+      let I : Item 𝓤 = ‵ (fat fullShare σ (bs .0) zero v) in
+      let J : Item 𝓤 = ‵ (fdies σ (bs .0)) in
+      pass1 t (init t 0 refl (ty .0)) $ by t (via 𝓤 _ (send2 H A (rooms H A ls (bs .1)) I J Γ)
+      (stored t (I ∷ J ∷ Γ) g τs ls (bs .1) vs (ty .1) (by t (via 𝓤 _ (bring2 H A (filled H A ls (bs .1) vs) I J Γ) (k .prf))) .prf))
+
   -- a function's walk begins
-  pub enters : K → {Γ : List (Item 𝓤)} (C : Calls 𝓤 H) (Λ : Loops 𝓤 H) (f : Fn) (vs : List Val) {Kf : Val → SProp 𝓤}
-      → ((bs : Spots (f .locals)) → Seq K W (rooms H A (f .locals) bs ++ Γ) (params′ (envAt H A (f .locals) bs) vs (runs C Λ (envAt H A (f .locals) bs) (f .body) (atRet (envAt H A (f .locals) bs) Kf))))
+  pub enters : K → {Γ : List (Item 𝓤)} (C : Calls 𝓤 H) (Λ : Loops 𝓤 H) (f : Fn) (τs : List Ty) (vs : List Val) → Begins τs (f .locals) → Typed τs vs → {Kf : Val → SProp 𝓤}
+      → ((bs : Spots (f .locals)) → Seq K W (entered H A (f .locals) bs vs ++ Γ) (runs C Λ (envAt H A (f .locals) bs) (f .body) (atRet (envAt H A (f .locals) bs) Kf)))
       → Seq K W Γ (prop (WpFn 𝓤 H C Λ f vs Kf))
-  enters t C Λ f vs {Kf} k = enter t C Λ f vs Kf $ allocated t (f .locals) (λ E. params′ E vs (runs C Λ E (f .body) (atRet E Kf))) k
+  enters t {Γ} C Λ f τs vs begins ty {Kf} k =
+      enter t C Λ f vs Kf $ allocated t (f .locals) (λ E. params′ E vs (runs C Λ E (f .body) (atRet E Kf))) (λ bs. all (f .locals) begins bs (λ E. runs C Λ E (f .body) (atRet E Kf)) (k bs))
+    where
+      all : (ls : List Local) → Begins τs ls → (bs : Spots ls) (g : Env 𝓤 H → Goal 𝓤 H) → Seq K W (entered H A ls bs vs ++ Γ) (g (envAt H A ls bs)) → Seq K W (rooms H A ls bs ++ Γ) (params′ (envAt H A ls bs) vs (g (envAt H A ls bs)))
+      all [] bad bs g k = absurd bad
+      all (local σ h ∷ ls) are bs g k =
+          let I : Item 𝓤 = ‵ (froom σ (bs .0) zero) in
+          let J : Item 𝓤 = ‵ (fdies σ (bs .0)) in
+          params1 t $ by t (via 𝓤 _ (send2 H A (rooms H A ls (bs .1)) I J Γ)
+          (stored t (I ∷ J ∷ Γ) (g (envAt H A (local σ h ∷ ls) bs)) τs ls (bs .1) vs (subst (λ (σs : List Ty). Typed σs vs) are ty) (by t (via 𝓤 _ (bring2 H A (filled H A ls (bs .1) vs) I J Γ) (k .prf))) .prf))
 
 -- what the context has of the locals E, and what is left of it behind them
 pub data Frees {M : Type 1} (𝓤 : URA M) (H : Heap 𝓤) : Env 𝓤 H → List (Item 𝓤) → List (Item 𝓤) → Type 2 where

@@ -69,7 +69,7 @@ module _ {M : Type 1} {𝓤 : URA M} {H : Heap 𝓤} {A : Atoms 𝓤} {K : Type 
       use2 W (later (some (λ (γ′ : GName). ‵ (ShrSlice ℓ′ (α ∷ []) R .own (named-as R b o ys γ′) (vals R b o ys)) ⊛ ‵ (Lent R κ (α ∷ []) q b o γ ys)))) (lends-shared R κ (α ∷ []) q b o γ ys 𝓤 H A W ℓ ℓ′) $ await t z $ pick t (λ γ′.
       split t $ move t (2 ∷ []) $ k α γ′))
 
-  pub unlend : K → Soaks G → (α : ℕ) (i : Item 𝓤)
-      → Step K W (‵ (flft κ q) ∷ ‵ (MutSlice ℓ κ R .own (named-as R b o ys γ) (vals R b o ys)) ∷ Γ) G (‵ (flft (α ∷ []) fullShare) ∷ i ∷ ‵ (Lent R κ (α ∷ []) q b o γ ys) ∷ Γ) G
-  unlend t z α i = step (λ s. lft-end t z $ move t (1 ∷ []) $ drop t $
+  pub unlend : K → Soaks G → (α : ℕ)
+      → Step K W (‵ (flft κ q) ∷ ‵ (MutSlice ℓ κ R .own (named-as R b o ys γ) (vals R b o ys)) ∷ Γ) G (‵ (flft (α ∷ []) fullShare) ∷ ‵ (Lent R κ (α ∷ []) q b o γ ys) ∷ Γ) G
+  unlend t z α = step (λ s. lft-end t z $
       use2 W (later (‵ (MutSlice ℓ κ R .own (named-as R b o ys γ) (vals R b o ys)) ⊛ ‵ (flft κ q))) (comes-back R κ (α ∷ []) q b o γ ys 𝓤 H A W ℓ) $ await t z $ split t $ move t (1 ∷ 0 ∷ []) $ s)

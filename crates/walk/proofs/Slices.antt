@@ -17,7 +17,7 @@ use types.Kit.{Given, Item, ‵, nth, put, Post, runs, Step, step, _$_}
 use types.Run.{Reads, Walks, Opd, stop, fld, hop, from, load, addr, and-then, no-more}
 use types.Part.{Part, agg, whole, sub, look-in}
 use denote.Slice.{sliceTy, sliceVal}
-use Rattle.table.proofs.Lines.{local, sets}
+use Rattle.walk.proofs.Lines.{local, sets}
 
 -- what a local holds: nothing, or a value
 module _ {M : Type 1} {𝓤 : URA M} (H : Heap 𝓤) (E : Env 𝓤 H) (i : ℕ) where

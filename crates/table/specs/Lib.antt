@@ -1,2 +1,0 @@
--- The lent table, copied out.
-pub mod Copy
