@@ -1,5 +1,7 @@
--- The request record, what becomes of it, when a table is sound, and its marks.
+-- The request record, what becomes of it, when a table is sound, and what one look at it finds.
 pub mod Life
 pub mod Sound
 pub mod Asked
 pub mod Marks
+pub mod Survey
+pub mod Seen

@@ -1,4 +1,4 @@
-// The request record by value, the table of up to eight of them, and its marks.
+// The request record by value, the table of up to eight of them, its survey and its marks.
 // Assumes nothing.
 pub use life::admitted;
 pub use life::free;
@@ -7,6 +7,7 @@ pub use sound::legal_mask;
 mod life;
 mod marking;
 mod sound;
+mod surveys;
 mod tables;
 
 // A request record. A free one is all zero.
@@ -38,4 +39,13 @@ pub struct Table {
 pub struct Marks {
     pub marks: [u64; 8],
     pub len: u64,
+}
+
+// What one look at a table finds: how many records it has, whether it is sound, the stripe that each of up to eight holds (or a number
+// that is no stripe's), and the lowest free record (its length where none is free).
+pub struct Survey {
+    pub len: u64,
+    pub sound: bool,
+    pub held: [u64; 8],
+    pub free: u64,
 }

@@ -1,8 +1,9 @@
 -- Parts of a list: a list made by a rule, the part that starts at a place, and the list with a part put in.
 -- Assumes nothing.
 use Prim.Native.Nat.{ℕ, zero, suc, _+_}
-use mathlib.Core.Bool.{Bool, true, _&&_}
+use mathlib.Core.Bool.{Bool, true, not, _&&_}
 use mathlib.Core.List.{List, [], _∷_, _++_}
+use lib.Dec.{eqb}
 use lib.ListN.{length, take, drop}
 
 module _ {ℓ} {A : Type ℓ} where
@@ -23,6 +24,10 @@ module _ {ℓ} {A : Type ℓ} where
   unfoldable pub every : (A → Bool) → List A → Bool
   every p [] = true
   every p (a ∷ l) = p a && every p l
+
+-- whether x is one of the numbers
+unfoldable pub among : List ℕ → ℕ → Bool
+among l x = not (every (λ a. not (eqb a x)) l)
 
 -- the list after the changes of f 0, f 1, .. f (n - 1), in this order
 unfoldable pub changes : ℕ → (ℕ → List ℕ → List ℕ) → List ℕ → List ℕ
