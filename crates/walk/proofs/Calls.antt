@@ -14,7 +14,7 @@ use base.Logic.{SProp, ent, sep, emp, id⊢, via, comm∗, assoc∗, assoc′, m
 use prog.Wp.{Heap, Env, Calls, Loops}
 use ghost.Atoms.{Atoms, sem}
 use sound.WpLaws.{FmC}
-use contract.Lifetimes.{Lfts, Shares, toks}
+use contract.Lifetimes.{Lfts, toks}
 use contract.Monad.{fact}
 use types.Kit.{Given, Item, ‵, raw, _⊛_, some, later, ⋆, push, pop, Post, runs, lands, Seq, _$_, by, move, use1, split, pick, await}
 use types.Run.{Opds}

@@ -11,7 +11,7 @@ use denote.Struct.Field.{Field, rows}
 use denote.Struct.Values.{Values, intos}
 use denote.Struct.Declared.{row}
 use denote.Struct.Record.{Record, Propositions, declared}
-use denote.Struct.Laws.{FLaws, Lawss, Laws}
+use denote.Struct.Laws.{Lawss, Laws}
 
 abbrev pub AreLows : (Fs : List Field) → Lawss Fs → Values Fs → Type 0
 AreLows [] ls xs = Unit {0}

@@ -25,7 +25,7 @@ use denote.Memory.{shares}
 use denote.Ref.{RefT}
 use denote.Slice.{sliceVal, MutSlice, ShrSlice, heres, at-slice, codedHoleys}
 use denote.Lend.{Held, lends-shr-slice}
-use denote.Index.{row, opens-slice, closes-slice}
+use denote.Index.{opens-slice, closes-slice}
 
 module _ (R : RattleType) (b o : ℕ) (ys : List (R .Denot)) where
   abbrev named-as : GName → RefT (List (R .Denot))

@@ -17,14 +17,14 @@ use prog.Wp.{Heap}
 use ghost.Atoms.{Atoms}
 use contract.Lifetimes.{Lfts}
 use types.Kit.{Given}
-use denote.Exit.{Kept, yes, Exit, unchanged, Last, left}
+use denote.Exit.{Kept, yes, Exit, Last, left}
 use denote.Laws.{Is, Ises, Tells, Spells, Tellss, Lawful, Lawfuls}
 use denote.RattleType.{RattleType}
 use denote.Ref.{ptr, mut-tells, mut-lawful, shr-tells, shr-lawful}
 use denote.Signature.{Slot, AllWithin, nameOf, meetAt, plain, mutRefTo, mutSliceOf, shrRefTo, shrSliceOf, typesAt}
 use denote.Slice.{sliceVal, mut-slice-tells, mut-slice-lawful, shr-slice-tells, shr-slice-lawful}
 use denote.Triple.End.{Kepts}
-use denote.Triple.Walked.{Stay, Stays, Goes, Silent, AllGo, stay-none, stay-none-ref, stay-none-slice, stay-ref, stay-slice, gave-ref, gave-slice, goes-none, goes-none-ref, goes-none-slice, goes-ref, goes-slice, goes-gave-ref, goes-gave-slice}
+use denote.Triple.Walked.{Stay, Stays, Goes, AllGo, stay-none, stay-none-ref, stay-none-slice, stay-ref, stay-slice, gave-ref, gave-slice, goes-none, goes-none-ref, goes-none-slice, goes-ref, goes-slice, goes-gave-ref, goes-gave-slice}
 use Rattle.walk.proofs.Data.{Data}
 
 module _ {n : ℕ} where

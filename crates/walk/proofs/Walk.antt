@@ -28,7 +28,7 @@ use ghost.Atoms.{Atoms, sem}
 use sound.WpLaws.{FmC, fmOf, WpFn-mono}
 use contract.Running.{GhostRules, Running, givenOf, tables, tablesOf}
 use contract.Lifetimes.{Lfts, Shares, AllOutlive, toks}
-use types.Kit.{Given, Item, ‵, raw, mean, ⋆, push, pop, prop, runs, atRet, Post, post, anyQ, Seq, Sq, Step, _∵_, !, qed, by}
+use types.Kit.{Given, Item, ‵, ⋆, push, pop, prop, runs, atRet, Post, post, anyQ, Seq, Sq, Step, _∵_, !, qed, by}
 use types.Run.{Below, loops, exec}
 use denote.RattleType.{RattleType, Denots, Valss, mirs, owns, flat}
 use denote.Laws.{Is, Are, Ises, Typed, valss, all-typed}

@@ -1,6 +1,6 @@
 -- `table::at` meets its contract: a walk of its MIR, by hand. Below the length the element is copied out; past it the free record is asked for.
 -- Assumes nothing.
-use Rattle.walk.proofs.Words.{_≡_, refl, sym, ℕ, _<_, _^_, List, [], _∷_, length, getD, ltb→lt, nltb→le, named, ‵, flft, id⊢, _$_, !, Sq, prop, move, look, lit, of-opd, bin, first, skips, branches, no-more, returns, returns-within, u64, Is, RefT, Room}
+use Rattle.walk.proofs.Words.{_≡_, refl, sym, ℕ, _<_, List, [], _∷_, length, getD, ltb→lt, nltb→le, named, ‵, flft, id⊢, _$_, !, Sq, prop, move, look, lit, of-opd, bin, first, skips, branches, no-more, returns, returns-within, u64, Is, RefT, Room}
 use Rattle.walk.proofs.Words.{number, by-value, shared, aside, end, full, room, leaves, local, sets, lands-in, pointer, counted, Machine, Subject, Known, Entry, End, Walk, given-of, nil, had, holds, typed, resumes, ends, proven, Callee, answers}
 use lib.ListN.{List·getD-eq-default}
 use denote.Slice.{ShrSlice}

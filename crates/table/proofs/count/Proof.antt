@@ -1,6 +1,6 @@
 -- `table::count` meets its contract: a walk of its MIR, by hand. The count stands beside the slice's pointer.
 -- Assumes nothing.
-use Rattle.walk.proofs.Words.{ℕ, refl, [], _∷_, length, _$_, !, look, of-opd, returns, number, shared, end, full, leaves, local, sets, counted, Machine, Subject, Known, Entry, Walk, nil, had, ends, holds, proven}
+use Rattle.walk.proofs.Words.{ℕ, refl, length, _$_, !, look, of-opd, returns, number, shared, end, full, leaves, local, sets, counted, Machine, Subject, Known, Entry, Walk, nil, had, ends, holds, proven}
 use Rattle.record.proofs.Record as T
 use Rattle.table.proofs.count
 
