@@ -3,7 +3,7 @@
 use Prim.Native.Nat.{ℕ, zero, suc, _+_, _≤_, _<_}
 use mathlib.Core.Bool.{Bool, true, false, cond}
 use mathlib.Core.List.{List}
-use mathlib.Core.Path.{_≡_, refl, sym, ap, _∙_}
+use mathlib.Core.Path.{_≡_, refl, sym, ap, ap₂, _∙_}
 use native.Mathlib.Numerals.{add-one}
 use native.Mathlib.Omega.{arith}
 use borrow.Author.Tests.{lt-ltb, ltb-true, ltb-false}
@@ -11,7 +11,7 @@ use lib.Bits.{bitXor}
 use lib.Dec.{ltb, eqb}
 use lib.ListN.{length, getD, length-replicate, getD-replicate, List·getD-eq-default}
 use lib.Seq.{ext-getD}
-use Rattle.terms.specs.Lists.{tabulate, changes}
+use Rattle.terms.specs.Lists.{changes}
 use Rattle.terms.specs.Sets.{xorTo}
 use Rattle.terms.proofs.Sets.{xorTo-cong}
 use Rattle.terms.proofs.Lists.{length-tabulate, getD-tabulate, is-tabulate}
@@ -47,17 +47,6 @@ sum-is : (a b r : List ℕ) → length r ≡ length a → ((i : ℕ) → i < len
     → added a b ≡ r
 unfolding added
 sum-is a b r e h = sym (is-tabulate r (length a) (λ i. bitXor (getD a i 0) (getD b i 0)) 0 e h)
-
--- two blocks added, byte by byte
-pub added-two : (s a b : List ℕ) → added (added s a) b ≡ tabulate (length s) (λ i. bitXor (bitXor (getD s i 0) (getD a i 0)) (getD b i 0))
-added-two s a b =
-    sum-is (added s a) b (tabulate (length s) f) (length-tabulate (length s) f ∙ sym (length-added s a))
-    (λ i h.
-    let l : i < length s = omega (arith, length-added s a) in
-    getD-tabulate (length s) f i 0 l ∙ ap (λ (x : ℕ). bitXor x (getD b i 0)) (sym (getD-added s a i l)))
-  where
-    f : ℕ → ℕ
-    f i = bitXor (bitXor (getD s i 0) (getD a i 0)) (getD b i 0)
 
 -- bytes stay bytes
 pub added-byte : (a b : List ℕ) → ((i : ℕ) → getD a i 0 < 256) → ((i : ℕ) → getD b i 0 < 256) → (i : ℕ) → i < length a → getD (added a b) i 0 < 256
@@ -113,18 +102,54 @@ pub summed-more : (n : ℕ) (f : ℕ → List ℕ) (a : List ℕ) → summed (n 
 unfolding summed changes
 summed-more n f a = rw add-one
 
--- two blocks more
-pub summed-two : (n : ℕ) (f : ℕ → List ℕ) (a : List ℕ) → summed (n + 2) f a ≡ added (added (summed n f a) (f n)) (f (n + 1))
-summed-two n f a =
-    ap (λ (k : ℕ). summed k f a) (add-assoc-one n) ∙ summed-more (n + 1) f a ∙ ap (λ (s : List ℕ). added s (f (n + 1))) (summed-more n f a)
-  where
-    add-assoc-one : (k : ℕ) → k + 2 ≡ k + 1 + 1
-    add-assoc-one k = omega arith
-
 pub length-summed : (n : ℕ) (f : ℕ → List ℕ) (a : List ℕ) → length (summed n f a) ≡ length a
 unfolding summed changes
 length-summed zero f a = refl
 length-summed (suc n) f a = length-added (summed n f a) (f n) ∙ length-summed n f a
+
+-- a byte of a sum, the blocks' bytes added in their order
+unfoldable pub xored : ℕ → (ℕ → List ℕ) → List ℕ → ℕ → ℕ
+xored zero f a i = getD a i 0
+xored (suc n) f a i = bitXor (xored n f a i) (getD (f n) i 0)
+
+pub getD-summed-in-order : (n : ℕ) (f : ℕ → List ℕ) (a : List ℕ) (i : ℕ) → i < length a → getD (summed n f a) i 0 ≡ xored n f a i
+unfolding summed changes xored
+getD-summed-in-order zero f a i h = refl
+getD-summed-in-order (suc n) f a i h =
+    getD-added (summed n f a) (f n) i (omega (arith, length-summed n f a))
+    ∙ ap (λ (x : ℕ). bitXor x (getD (f n) i 0)) (getD-summed-in-order n f a i h)
+
+-- beyond all the blocks the sum is as it was
+pub getD-summed-beyond : (n : ℕ) (f : ℕ → List ℕ) (a : List ℕ) (i : ℕ) → i < length a → ((k : ℕ) → k < n → length (f k) ≤ i)
+    → getD (summed n f a) i 0 ≡ getD a i 0
+unfolding summed changes
+getD-summed-beyond zero f a i h z = refl
+getD-summed-beyond (suc n) f a i h z =
+    getD-added (summed n f a) (f n) i (omega (arith, length-summed n f a))
+    ∙ ap (λ (x : ℕ). bitXor (getD (summed n f a) i 0) x) (List·getD-eq-default (f n) 0 (z n (omega arith)))
+    ∙ xor-zero (getD (summed n f a) i 0) ∙ getD-summed-beyond n f a i h (λ k l. z k (omega arith))
+
+-- the same blocks
+pub summed-cong : (n : ℕ) (f g : ℕ → List ℕ) (a : List ℕ) → ((k : ℕ) → k < n → f k ≡ g k) → summed n f a ≡ summed n g a
+unfolding summed changes
+summed-cong zero f g a e = refl
+summed-cong (suc n) f g a e = ap₂ added (summed-cong n f g a (λ k l. e k (omega arith))) (e n (omega arith))
+
+-- the blocks from m on are zeros, and add nothing
+pub summed-rest : (size m n : ℕ) (f g : ℕ → List ℕ) (a : List ℕ) → m ≤ n → ((k : ℕ) → k < m → f k ≡ g k)
+    → ((k : ℕ) → m ≤ k → f k ≡ zeros size) → summed n f a ≡ summed m g a
+unfolding summed changes
+summed-rest size m zero f g a h e z = ap (λ (k : ℕ). summed k g a) (let q : 0 ≡ m = omega arith in q)
+summed-rest size m (suc n) f g a h e z = last (λ l. summed-rest size m n f g a l e z) (ltb n m) refl
+  where
+    last : (m ≤ n → summed n f a ≡ summed m g a) → (b : Bool) → ltb n m ≡ b → added (summed n f a) (f n) ≡ summed m g a
+    last ih true t =
+        let l : n < m = ltb-true n m t in
+        let q : suc n ≡ m = omega arith in
+        summed-cong (suc n) f g a (λ k j. e k (omega arith)) ∙ ap (λ (k : ℕ). summed k g a) q
+    last ih false t =
+        let l : m ≤ n = ltb-false n m t in
+        ap (λ (b : List ℕ). added (summed n f a) b) (z n l) ∙ added-zeros (summed n f a) size ∙ ih l
 
 -- each byte is the exclusive or of the blocks' bytes there
 pub getD-summed : (n : ℕ) (f : ℕ → List ℕ) (a : List ℕ) (i : ℕ) → i < length a
