@@ -13,9 +13,10 @@ use lib.Seq.{ext-getD}
 use Rattle.terms.specs.Lists.{part}
 use Rattle.terms.proofs.Lists.{length-part, getD-part, is-tabulate}
 use Rattle.block.specs.Blocks.{summed, zeros}
+use Rattle.block.proofs.Xor.{xor-zero}
 use Rattle.block.proofs.Blocks.{length-zeros, getD-zeros, length-summed, getD-summed-in-order, getD-summed-beyond, summed-cong, summed-rest, xored}
 use Rattle.block.proofs.Filled.{filled, filled-all}
-use Rattle.parity.specs.Fitting.{Fitting, EightLong, eight}
+use Rattle.parity.specs.Fitting.{Fitting, EightLong, LastZero, eight}
 use Rattle.parity.specs.Parity.{cell, cellOrNone}
 use Rattle.parity.proofs.Inside.{length-cell}
 
@@ -38,11 +39,22 @@ filled-sum n f s size h =
     ∙ sym (is-tabulate (summed n f s) (length s) (byteOf n f s) 0 (length-summed n f s) (λ i m. refl))
 
 module _ (a b c d e f g h : List ℕ) where
-  -- x and the eight blocks' bytes at i
+  -- x and the bytes at i of the first five blocks, and of all eight
+  abbrev pub six : ℕ → ℕ → ℕ
+  six i x = bitXor (bitXor (bitXor (bitXor (bitXor x (getD a i 0)) (getD b i 0)) (getD c i 0)) (getD d i 0)) (getD e i 0)
+
   abbrev pub nine : ℕ → ℕ → ℕ
-  nine i x =
-      bitXor (bitXor (bitXor (bitXor (bitXor (bitXor (bitXor (bitXor x
-      (getD a i 0)) (getD b i 0)) (getD c i 0)) (getD d i 0)) (getD e i 0)) (getD f i 0)) (getD g i 0)) (getD h i 0)
+  nine i x = bitXor (bitXor (bitXor (six i x) (getD f i 0)) (getD g i 0)) (getD h i 0)
+
+  -- they are the same where the last three are zeros
+  pub six-nine : (size : ℕ) → LastZero size f g h → (i x : ℕ) → six i x ≡ nine i x
+  six-nine size z i x =
+      sym (ap (λ (y : ℕ). bitXor (bitXor (bitXor (six i x) (getD f i 0)) (getD g i 0)) y) (none (z .h-zero)) ∙ xor-zero _
+      ∙ ap (λ (y : ℕ). bitXor (bitXor (six i x) (getD f i 0)) y) (none (z .g-zero)) ∙ xor-zero _
+      ∙ ap (λ (y : ℕ). bitXor (six i x) y) (none (z .f-zero)) ∙ xor-zero _)
+    where
+      none : {b : List ℕ} → b ≡ zeros size → getD b i 0 ≡ 0
+      none q = ap (λ (t : List ℕ). getD t i 0) q ∙ getD-zeros size i
 
   pub nine-is : (s : List ℕ) (i : ℕ) → i < length s → nine i (getD s i 0) ≡ byteOf 8 (eight a b c d e f g h) s i
   unfolding eight xored

@@ -4,6 +4,7 @@ use Prim.Native.Nat.{ℕ, _≤_}
 use mathlib.Core.List.{List, [], _∷_}
 use mathlib.Core.Path.{_≡_}
 use lib.ListN.{length, getD}
+use Rattle.block.specs.Blocks.{zeros}
 use Rattle.geometry.specs.Store.{imageSize}
 
 pub record Fitting (N S B : ℕ) (image : List ℕ) : Type 0 where
@@ -26,3 +27,9 @@ pub record EightLong (size : ℕ) (a b c d e f g h : List ℕ) : Type 0 where
   pub f-long : length f ≡ size
   pub g-long : length g ≡ size
   pub h-long : length h ≡ size
+
+-- the last three are zeros
+pub record LastZero (size : ℕ) (f g h : List ℕ) : Type 0 where
+  pub f-zero : f ≡ zeros size
+  pub g-zero : g ≡ zeros size
+  pub h-zero : h ≡ zeros size

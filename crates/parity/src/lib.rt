@@ -1,10 +1,11 @@
 // The parity of stripes in the image, and the scan for the lowest place where it disagrees.
 // Assumes nothing.
+ghost use mathlib.Core.Bool.{false};
 ghost use mathlib.Core.Path.{_≡_};
 ghost use Prim.Native.Nat.{_≤_, _<_};
 ghost use lib.ListN.{length};
 ghost use Rattle.block.specs.Blocks.{summed, zeros, allZero};
-ghost use Rattle.parity.specs.Fitting.{Fitting, EightLong, eight};
+ghost use Rattle.parity.specs.Fitting.{Fitting, EightLong, LastZero, eight};
 ghost use Rattle.parity.specs.Parity.{cell, cellOrNone, looked, passes};
 ghost use Rattle.parity.specs.Scan.{Named, reply, lookReply, idleScanReply};
 use geometry::NO_STRIPE;
@@ -55,10 +56,12 @@ fn cell_or_none<'a>(
     &none[0..size]
 }
 
-// Adds eight blocks to the sum in one pass, and tells whether its bytes there are all zero: no way out of the loop, which vectorises.
+// Adds eight blocks to the sum in one pass, and tells whether its bytes there are all zero: no way out of the loop, which vectorises. The
+// last three are not read where there are no more than five, and they are zeros.
 fn add_eight(
     sum: &mut [u8],
     size: usize,
+    more: bool,
     a: &[u8],
     b: &[u8],
     c: &[u8],
@@ -68,13 +71,16 @@ fn add_eight(
     g: &[u8],
     h: &[u8],
 ) -> bool
-    requires { ⌜ (size ≤ length (now sum)) × (EightLong size (now a) (now b) (now c) (now d) (now e) (now f) (now g) (now h)) ⌝ }
+    requires { ⌜ (size ≤ length (now sum)) × (EightLong size (now a) (now b) (now c) (now d) (now e) (now f) (now g) (now h)) × (more ≡ false → LastZero size (now f) (now g) (now h)) ⌝ }
     ensures { λ r. ⌜ (now (sum .exit) ≡ summed 8 (eight (now (a .entry)) (now (b .entry)) (now (c .entry)) (now (d .entry)) (now (e .entry)) (now (f .entry)) (now (g .entry)) (now (h .entry))) (now (sum .entry))) × (r ≡ allZero size (now (sum .exit))) ⌝ }
 {
     let mut any: u8 = 0;
     let mut i = 0;
     while i < size {
-        let byte = sum[i] ^ a[i] ^ b[i] ^ c[i] ^ d[i] ^ e[i] ^ f[i] ^ g[i] ^ h[i];
+        let mut byte = sum[i] ^ a[i] ^ b[i] ^ c[i] ^ d[i] ^ e[i];
+        if more {
+            byte = byte ^ f[i] ^ g[i] ^ h[i];
+        }
         sum[i] = byte;
         any = any | byte;
         i += 1;
@@ -83,7 +89,8 @@ fn add_eight(
 }
 
 // Adds the blocks of all cards in a stripe to the sum, and tells whether its first `size` bytes are then all zero. An array has at most
-// eight cards; one that it lacks counts as a block of zero bytes, of which `none` has enough.
+// eight cards; one that it lacks counts as a block of zero bytes, of which `none` has enough. (The loop for five blocks takes 32 bytes a
+// turn, and where a half is left the one for eight is faster: docs/PERFORMANCE.md.)
 fn add_cards<'a>(
     sum: &mut [u8; 512],
     image: &'a [u8],
@@ -96,6 +103,10 @@ fn add_cards<'a>(
     requires { ⌜ (Fitting cards stripes size (now image)) × (stripe < stripes) × (now none ≡ zeros 512) ⌝ }
     ensures { λ r. ⌜ (now (sum .exit) ≡ summed cards (cell stripes size (now (image .entry)) stripe) (now (sum .entry))) × (r ≡ allZero size (now (sum .exit))) ⌝ }
 {
+    let mut more = true;
+    if cards < 6 {
+        more = size % 32 != 0;
+    }
     let a = cell_or_none(image, none, cards, stripes, size, stripe, 0);
     let b = cell_or_none(image, none, cards, stripes, size, stripe, 1);
     let c = cell_or_none(image, none, cards, stripes, size, stripe, 2);
@@ -104,7 +115,7 @@ fn add_cards<'a>(
     let f = cell_or_none(image, none, cards, stripes, size, stripe, 5);
     let g = cell_or_none(image, none, cards, stripes, size, stripe, 6);
     let h = cell_or_none(image, none, cards, stripes, size, stripe, 7);
-    add_eight(sum, size, a, b, c, d, e, f, g, h)
+    add_eight(sum, size, more, a, b, c, d, e, f, g, h)
 }
 
 // Whether a stripe is among those to pass over.

@@ -1,13 +1,17 @@
 -- `parity::add_cards` meets its contract: of the eight blocks those of the array's cards count, and the others are zeros.
 -- Assumes nothing.
-use Prim.Native.Nat.{ℕ}
+use Prim.Native.Nat.{ℕ, _≤_}
+use mathlib.Core.Bool.{false}
 use mathlib.Core.List.{List}
-use mathlib.Core.Path.{ap, _∙_}
+use mathlib.Core.Logic.{⊎-elim}
+use mathlib.Core.Path.{_≡_, sym, ap, _∙_}
 use native.Mathlib.Omega.{arith}
 use borrow.Author.Needs.{needs}
 use lib.ListN.{length}
+use Rattle.terms.proofs.Rows.{true≢false}
+use Rattle.block.specs.Blocks.{zeros}
 use Rattle.parity.specs.Parity.{cellOrNone}
-use Rattle.parity.proofs.Eight.{eight-are, summed-cards, length-card}
+use Rattle.parity.proofs.Eight.{eight-are, card-none, summed-cards, length-card}
 use Rattle.parity.proofs.add_cards.Statement.{statement}
 use Rattle.parity.proofs.add_cards.Tie as tie
 
@@ -49,8 +53,11 @@ add-eight-requires c κs =
     let third = d .before in
     let b = third .before in
     let a = b .before in
-    let start = a .before .before .before in
+    let start = a .before .before .before .before in
     let args = start .args in
+    let few : a .before .if1 .more ≡ false → args .cards ≤ 5 = λ q. ⊎-elim (λ w. omega (arith, w .0 .taken)) (λ w. absurd (true≢false (sym (w .1) ∙ q))) (a .before .if1 .came) in
+    let none : a .before .if1 .more ≡ false → (k : ℕ) → 5 ≤ k → blocks start k ≡ zeros (args .size) =
+    λ q k l. card-none (args .cards) (args .stripes) (args .size) (args .image .now) (args .stripe) k (omega (arith, few q)) in
     let long = length-card (args .cards) (args .stripes) (args .size) (args .image .now) (args .stripe) (start .pre .0) (start .pre .1) in (
       omega (arith, c .add-eight-arg .given .0 .1, start .pre .0 .block),
       record {
@@ -63,6 +70,11 @@ add-eight-requires c κs =
         g-long = ap length (g .cell-or-none7 .ensures) ∙ long 6;
         h-long = ap length (h .cell-or-none8 .ensures) ∙ long 7;
       },
+      (λ q. record {
+        f-zero = f .cell-or-none6 .ensures ∙ none q 5 (omega arith);
+        g-zero = g .cell-or-none7 .ensures ∙ none q 6 (omega arith);
+        h-zero = h .cell-or-none8 .ensures ∙ none q 7 (omega arith);
+      }),
     )
 
 returns : tie.Need-returns
@@ -75,7 +87,7 @@ returns c =
     let third = d .before in
     let b = third .before in
     let a = b .before in
-    let start = a .before .before .before in
+    let start = a .before .before .before .before in
     let args = start .args in (
       c .add-eight .ensures .0
           ∙ eight-are _ _ _ _ _ _ _ _ (blocks start) (a .cell-or-none .ensures) (b .cell-or-none2 .ensures) (third .cell-or-none3 .ensures) (d .cell-or-none4 .ensures) (e .cell-or-none5 .ensures) (f .cell-or-none6 .ensures) (g .cell-or-none7 .ensures) (h .cell-or-none8 .ensures) (args .sum .now)

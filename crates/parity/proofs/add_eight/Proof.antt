@@ -3,6 +3,7 @@
 -- Assumes nothing.
 use Prim.Native.Nat.{ℕ, _-_, _≤_, _<_}
 use mathlib.Core.List.{List}
+use mathlib.Core.Logic.{⊎-elim}
 use mathlib.Core.Path.{_≡_, refl, sym, ap, _∙_}
 use native.Mathlib.Omega.{arith}
 use borrow.Author.Needs.{needs}
@@ -13,17 +14,17 @@ use Rattle.block.specs.Blocks.{summed, allZero}
 use Rattle.block.proofs.Filled.{filled, filled-none, filled-next, filled-store}
 use Rattle.block.proofs.Zeros.{zeros-none, zeros-more}
 use Rattle.parity.specs.Fitting.{eight}
-use Rattle.parity.proofs.Eight.{byteOf, nine, nine-is, eight-long, filled-sum}
+use Rattle.parity.proofs.Eight.{byteOf, nine, six-nine, nine-is, eight-long, filled-sum}
 use Rattle.parity.proofs.add_eight.Statement.{statement}
 use Rattle.parity.proofs.add_eight.Tie as tie
 
 abbrev Inv-loop : tie.InvT-loop
-Inv-loop sum₀ size a b c d e f g h any₀ i₀ sum any i =
+Inv-loop sum₀ size more a b c d e f g h any₀ i₀ sum any i =
     (i ≤ size) × (sum ≡ filled (byteOf 8 (eight a b c d e f g h) sum₀) i sum₀) × (length sum ≡ length sum₀)
     × (eqb any 0 ≡ allZero i (summed 8 (eight a b c d e f g h) sum₀))
 
 abbrev μ-loop : tie.MeasureT-loop
-μ-loop sum₀ size a b c d e f g h any₀ i₀ sum any i = size - i
+μ-loop sum₀ size more a b c d e f g h any₀ i₀ sum any i = size - i
 
 -- the blocks that are lent
 abbrev blocks : tie.Start Inv-loop μ-loop → ℕ → List ℕ
@@ -80,18 +81,24 @@ loop-less c = search needs
 
 loop-again : tie.Need-loop-again Inv-loop μ-loop
 loop-again c =
-    let at = c .before .before .before .before .before .before .before .before .before .before .loop in
-    let start = c .before .before .before .before .before .before .before .before .before .before .before in
+    let join = c .before .if1 in
+    let at = c .before .before .before .before .before .before .before .before .before .loop in
+    let start = c .before .before .before .before .before .before .before .before .before .before in
     let sum = start .args .sum .now in
     let inside : at .i < length sum = omega arith in
-    let v : ℕ = added-at start (at .i) (getD (at .sum) (at .i) 0) in
-    let is : v ≡ byteOf 8 (blocks start) sum (at .i) =
-    ap (added-at start (at .i)) (filled-next (byteOf 8 (blocks start) sum) sum (at .sum) (at .i) (at .inv .1) inside)
+    let all : join .byte ≡ added-at start (at .i) (getD (at .sum) (at .i) 0) =
+    ⊎-elim (λ w. w .4)
+    (λ w. w .1
+    ∙ six-nine (start .args .a .now) (start .args .b .now) (start .args .c .now) (start .args .d .now) (start .args .e .now)
+    (start .args .f .now) (start .args .g .now) (start .args .h .now) (start .args .size) (start .pre .2 (w .0 .left)) (at .i) (getD (at .sum) (at .i) 0))
+    (join .came) in
+    let is : join .byte ≡ byteOf 8 (blocks start) sum (at .i) =
+    all ∙ ap (added-at start (at .i)) (filled-next (byteOf 8 (blocks start) sum) sum (at .sum) (at .i) (at .inv .1) inside)
     ∙ nine-is (start .args .a .now) (start .args .b .now) (start .args .c .now) (start .args .d .now) (start .args .e .now)
     (start .args .f .now) (start .args .g .now) (start .args .h .now) sum (at .i) inside in (
       search needs,
-      filled-store (byteOf 8 (blocks start) sum) sum (at .sum) (at .i) v (at .inv .1) inside is,
-      length-set (at .sum) (at .i) v ∙ at .inv .2,
+      filled-store (byteOf 8 (blocks start) sum) sum (at .sum) (at .i) (join .byte) (at .inv .1) inside is,
+      length-set (at .sum) (at .i) (join .byte) ∙ at .inv .2,
       ap (λ (x : ℕ). eqb (bitOr (at .any) x) 0) is ∙ zeros-more (summed 8 (blocks start) sum) (at .i) (at .any) (at .inv .3),
     )
 
