@@ -1,4 +1,4 @@
--- What a function of this crate asks of the numbers of an array and its image, once refusals 1 and 2 are tested.
+-- What the private functions of this crate ask: of the numbers of an array and its image, once refusals 1 and 2 are tested, and of eight blocks.
 -- Assumes nothing.
 use Prim.Native.Nat.{ℕ, _≤_}
 use mathlib.Core.List.{List, [], _∷_}

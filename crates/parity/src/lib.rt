@@ -56,8 +56,8 @@ fn cell_or_none<'a>(
     &none[0..size]
 }
 
-// Adds eight blocks to the sum in one pass, and tells whether its bytes there are all zero: no way out of the loop, which vectorises. The
-// last three are not read where there are no more than five, and they are zeros.
+// Adds eight blocks to the sum in one pass, and tells whether its bytes there are all zero: no way out of the loop, which vectorises. Where
+// there are not more than five, the last three are zeros and are not read.
 fn add_eight(
     sum: &mut [u8],
     size: usize,

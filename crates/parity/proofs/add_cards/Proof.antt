@@ -55,8 +55,10 @@ add-eight-requires c κs =
     let a = b .before in
     let start = a .before .before .before .before in
     let args = start .args in
-    let few : a .before .if1 .more ≡ false → args .cards ≤ 5 = λ q. ⊎-elim (λ w. omega (arith, w .0 .taken)) (λ w. absurd (true≢false (sym (w .1) ∙ q))) (a .before .if1 .came) in
-    let none : a .before .if1 .more ≡ false → (k : ℕ) → 5 ≤ k → blocks start k ≡ zeros (args .size) =
+    let join = a .before .if1 in
+    let few : join .more ≡ false → args .cards ≤ 5 =
+    λ q. ⊎-elim (λ w. omega (arith, w .0 .taken)) (λ w. true≢false (sym (w .1) ∙ q)) (join .came) in
+    let none : join .more ≡ false → (k : ℕ) → 5 ≤ k → blocks start k ≡ zeros (args .size) =
     λ q k l. card-none (args .cards) (args .stripes) (args .size) (args .image .now) (args .stripe) k (omega (arith, few q)) in
     let long = length-card (args .cards) (args .stripes) (args .size) (args .image .now) (args .stripe) (start .pre .0) (start .pre .1) in (
       omega (arith, c .add-eight-arg .given .0 .1, start .pre .0 .block),
@@ -90,7 +92,8 @@ returns c =
     let start = a .before .before .before .before in
     let args = start .args in (
       c .add-eight .ensures .0
-          ∙ eight-are _ _ _ _ _ _ _ _ (blocks start) (a .cell-or-none .ensures) (b .cell-or-none2 .ensures) (third .cell-or-none3 .ensures) (d .cell-or-none4 .ensures) (e .cell-or-none5 .ensures) (f .cell-or-none6 .ensures) (g .cell-or-none7 .ensures) (h .cell-or-none8 .ensures) (args .sum .now)
+          ∙ eight-are _ _ _ _ _ _ _ _ (blocks start) (a .cell-or-none .ensures) (b .cell-or-none2 .ensures)
+          (third .cell-or-none3 .ensures) (d .cell-or-none4 .ensures) (e .cell-or-none5 .ensures) (f .cell-or-none6 .ensures) (g .cell-or-none7 .ensures) (h .cell-or-none8 .ensures) (args .sum .now)
           ∙ summed-cards (args .cards) (args .stripes) (args .size) (args .image .now) (args .stripe) (start .pre .0 .cards) (args .sum .now),
       c .add-eight .ensures .1,
     )
