@@ -1,29 +1,22 @@
--- Laws of blocks: how long a copy or a sum is, what stands at each place, and the algebra of sums of blocks of one length.
+-- Laws of blocks: a whole copy, how long a sum is and what stands at each place, and sums of several blocks.
 -- Assumes nothing.
 use Prim.Native.Nat.{ℕ, zero, suc, _+_, _≤_, _<_}
 use mathlib.Core.Bool.{Bool, true, false, cond}
 use mathlib.Core.List.{List}
-use mathlib.Core.Path.{_≡_, refl, sym, ap, _∙_}
+use mathlib.Core.Path.{_≡_, refl, sym, ap, ap₂, _∙_}
 use native.Mathlib.Numerals.{add-one}
 use native.Mathlib.Omega.{arith}
 use borrow.Author.Tests.{lt-ltb, ltb-true, ltb-false}
 use lib.Bits.{bitXor}
-use lib.Dec.{ltb, eqb}
+use lib.Dec.{ltb}
 use lib.ListN.{length, getD, length-replicate, getD-replicate, List·getD-eq-default}
-use lib.Seq.{ext-getD}
-use Rattle.terms.specs.Lists.{tabulate, changes}
+use Rattle.terms.specs.Lists.{changes}
 use Rattle.terms.specs.Sets.{xorTo}
-use Rattle.terms.proofs.Sets.{xorTo-cong}
 use Rattle.terms.proofs.Lists.{length-tabulate, getD-tabulate, is-tabulate}
 use Rattle.block.specs.Blocks.{copied, added, summed, zeros}
-use Rattle.block.proofs.Xor.{xor-assoc, xor-comm, xor-zero, zero-xor, xor-self, xor-byte}
-use Rattle.block.proofs.Sums.{others, sum-zero-term, term-sum-zero}
+use Rattle.block.proofs.Xor.{xor-assoc, xor-zero, zero-xor}
 
 -- ---- a copy
-
-pub length-copied : (a b : List ℕ) → length (copied a b) ≡ length a
-unfolding copied
-length-copied a b = length-tabulate (length a) (λ i. cond (ltb i (length b)) (getD b i 0) (getD a i 0))
 
 -- a block copied over one of its length is that block
 pub copied-whole : (a b : List ℕ) → length a ≡ length b → copied a b ≡ b
@@ -48,21 +41,6 @@ sum-is : (a b r : List ℕ) → length r ≡ length a → ((i : ℕ) → i < len
 unfolding added
 sum-is a b r e h = sym (is-tabulate r (length a) (λ i. bitXor (getD a i 0) (getD b i 0)) 0 e h)
 
--- two blocks added, byte by byte
-pub added-two : (s a b : List ℕ) → added (added s a) b ≡ tabulate (length s) (λ i. bitXor (bitXor (getD s i 0) (getD a i 0)) (getD b i 0))
-added-two s a b =
-    sum-is (added s a) b (tabulate (length s) f) (length-tabulate (length s) f ∙ sym (length-added s a))
-    (λ i h.
-    let l : i < length s = omega (arith, length-added s a) in
-    getD-tabulate (length s) f i 0 l ∙ ap (λ (x : ℕ). bitXor x (getD b i 0)) (sym (getD-added s a i l)))
-  where
-    f : ℕ → ℕ
-    f i = bitXor (bitXor (getD s i 0) (getD a i 0)) (getD b i 0)
-
--- bytes stay bytes
-pub added-byte : (a b : List ℕ) → ((i : ℕ) → getD a i 0 < 256) → ((i : ℕ) → getD b i 0 < 256) → (i : ℕ) → i < length a → getD (added a b) i 0 < 256
-added-byte a b ha hb i h = rw (getD-added a b i h) (xor-byte (getD a i 0) (getD b i 0) (ha i) (hb i))
-
 pub length-zeros : (n : ℕ) → length (zeros n) ≡ n
 length-zeros n = length-replicate n zero
 
@@ -80,27 +58,6 @@ getD-zeros n i = go (ltb i n) refl
 pub added-zeros : (a : List ℕ) (n : ℕ) → added a (zeros n) ≡ a
 added-zeros a n = sum-is a (zeros n) a refl (λ i h. sym (ap (λ (x : ℕ). bitXor (getD a i 0) x) (getD-zeros n i) ∙ xor-zero (getD a i 0)))
 
-module _ (a b : List ℕ) (e : length a ≡ length b) where
-  pub added-comm : added a b ≡ added b a
-  added-comm =
-      sum-is a b (added b a) (length-added b a ∙ sym e)
-      (λ i h. getD-added b a i (omega arith) ∙ xor-comm (getD b i 0) (getD a i 0))
-
-  pub added-assoc : (c : List ℕ) → added (added a b) c ≡ added a (added b c)
-  added-assoc c =
-      sum-is (added a b) c (added a (added b c)) (length-added a (added b c) ∙ sym (length-added a b))
-      (λ i h.
-      let l : i < length a = omega (arith, length-added a b) in
-      getD-added a (added b c) i l ∙ ap (λ (x : ℕ). bitXor (getD a i 0) x) (getD-added b c i (omega arith))
-      ∙ sym (xor-assoc (getD a i 0) (getD b i 0) (getD c i 0))
-      ∙ ap (λ (x : ℕ). bitXor x (getD c i 0)) (sym (getD-added a b i l)))
-
--- a block added to itself is nothing
-pub added-self : (a : List ℕ) → added a a ≡ zeros (length a)
-added-self a =
-    sum-is a a (zeros (length a)) (length-zeros (length a))
-    (λ i h. getD-replicate (length a) i 0 0 h ∙ sym (xor-self (getD a i 0)))
-
 -- ---- several blocks
 
 -- with no block the sum is as it was
@@ -113,18 +70,54 @@ pub summed-more : (n : ℕ) (f : ℕ → List ℕ) (a : List ℕ) → summed (n 
 unfolding summed changes
 summed-more n f a = rw add-one
 
--- two blocks more
-pub summed-two : (n : ℕ) (f : ℕ → List ℕ) (a : List ℕ) → summed (n + 2) f a ≡ added (added (summed n f a) (f n)) (f (n + 1))
-summed-two n f a =
-    ap (λ (k : ℕ). summed k f a) (add-assoc-one n) ∙ summed-more (n + 1) f a ∙ ap (λ (s : List ℕ). added s (f (n + 1))) (summed-more n f a)
-  where
-    add-assoc-one : (k : ℕ) → k + 2 ≡ k + 1 + 1
-    add-assoc-one k = omega arith
-
 pub length-summed : (n : ℕ) (f : ℕ → List ℕ) (a : List ℕ) → length (summed n f a) ≡ length a
 unfolding summed changes
 length-summed zero f a = refl
 length-summed (suc n) f a = length-added (summed n f a) (f n) ∙ length-summed n f a
+
+-- a byte of a sum, the blocks' bytes added in their order
+unfoldable pub xored : ℕ → (ℕ → List ℕ) → List ℕ → ℕ → ℕ
+xored zero f a i = getD a i 0
+xored (suc n) f a i = bitXor (xored n f a i) (getD (f n) i 0)
+
+pub getD-summed-in-order : (n : ℕ) (f : ℕ → List ℕ) (a : List ℕ) (i : ℕ) → i < length a → getD (summed n f a) i 0 ≡ xored n f a i
+unfolding summed changes xored
+getD-summed-in-order zero f a i h = refl
+getD-summed-in-order (suc n) f a i h =
+    getD-added (summed n f a) (f n) i (omega (arith, length-summed n f a))
+    ∙ ap (λ (x : ℕ). bitXor x (getD (f n) i 0)) (getD-summed-in-order n f a i h)
+
+-- beyond all the blocks the sum is as it was
+pub getD-summed-beyond : (n : ℕ) (f : ℕ → List ℕ) (a : List ℕ) (i : ℕ) → i < length a → ((k : ℕ) → k < n → length (f k) ≤ i)
+    → getD (summed n f a) i 0 ≡ getD a i 0
+unfolding summed changes
+getD-summed-beyond zero f a i h z = refl
+getD-summed-beyond (suc n) f a i h z =
+    getD-added (summed n f a) (f n) i (omega (arith, length-summed n f a))
+    ∙ ap (λ (x : ℕ). bitXor (getD (summed n f a) i 0) x) (List·getD-eq-default (f n) 0 (z n (omega arith)))
+    ∙ xor-zero (getD (summed n f a) i 0) ∙ getD-summed-beyond n f a i h (λ k l. z k (omega arith))
+
+-- the same blocks
+pub summed-cong : (n : ℕ) (f g : ℕ → List ℕ) (a : List ℕ) → ((k : ℕ) → k < n → f k ≡ g k) → summed n f a ≡ summed n g a
+unfolding summed changes
+summed-cong zero f g a e = refl
+summed-cong (suc n) f g a e = ap₂ added (summed-cong n f g a (λ k l. e k (omega arith))) (e n (omega arith))
+
+-- the blocks from m on are zeros, and add nothing
+pub summed-rest : (size m n : ℕ) (f g : ℕ → List ℕ) (a : List ℕ) → m ≤ n → ((k : ℕ) → k < m → f k ≡ g k)
+    → ((k : ℕ) → m ≤ k → f k ≡ zeros size) → summed n f a ≡ summed m g a
+unfolding summed changes
+summed-rest size m zero f g a h e z = ap (λ (k : ℕ). summed k g a) (let q : 0 ≡ m = omega arith in q)
+summed-rest size m (suc n) f g a h e z = last (λ l. summed-rest size m n f g a l e z) (ltb n m) refl
+  where
+    last : (m ≤ n → summed n f a ≡ summed m g a) → (b : Bool) → ltb n m ≡ b → added (summed n f a) (f n) ≡ summed m g a
+    last ih true t =
+        let l : n < m = ltb-true n m t in
+        let q : suc n ≡ m = omega arith in
+        summed-cong (suc n) f g a (λ k j. e k (omega arith)) ∙ ap (λ (k : ℕ). summed k g a) q
+    last ih false t =
+        let l : m ≤ n = ltb-false n m t in
+        ap (λ (b : List ℕ). added (summed n f a) b) (z n l) ∙ added-zeros (summed n f a) size ∙ ih l
 
 -- each byte is the exclusive or of the blocks' bytes there
 pub getD-summed : (n : ℕ) (f : ℕ → List ℕ) (a : List ℕ) (i : ℕ) → i < length a
@@ -142,37 +135,3 @@ pub getD-summed-zeros : (n : ℕ) (f : ℕ → List ℕ) (size i : ℕ) → i < 
 getD-summed-zeros n f size i h =
     getD-summed n f (zeros size) i (omega (arith, length-zeros size))
     ∙ ap (λ (x : ℕ). bitXor x (xorTo n (λ k. getD (f k) i 0))) (getD-zeros size i) ∙ zero-xor (xorTo n (λ k. getD (f k) i 0))
-
--- the blocks of all positions sum to zero exactly when any one, that of k, is the sum of the others
-module _ (size n : ℕ) (f : ℕ → List ℕ) (long : (i : ℕ) → i < n → length (f i) ≡ size) (k : ℕ) (h : k < n) where
-  pub otherBlocks : ℕ → List ℕ
-  otherBlocks i = cond (eqb i k) (zeros size) (f i)
-
-  -- their bytes at a place
-  others-at : (b : ℕ) → xorTo n (λ i. getD (otherBlocks i) b 0) ≡ xorTo n (others k (λ i. getD (f i) b 0))
-  unfolding otherBlocks
-  others-at b = xorTo-cong n (λ i. getD (otherBlocks i) b 0) (others k (λ i. getD (f i) b 0)) (λ i l. at i (eqb i k) refl)
-    where
-      at : (i : ℕ) (t : Bool) → eqb i k ≡ t → getD (cond (eqb i k) (zeros size) (f i)) b 0 ≡ cond (eqb i k) 0 (getD (f i) b 0)
-      at i true e = rw e (getD-zeros size b)
-      at i false e = rw e
-
-  pub blocks-zero-term : summed n f (zeros size) ≡ zeros size → f k ≡ summed n otherBlocks (zeros size)
-  blocks-zero-term z =
-      ext-getD 0 (f k) (summed n otherBlocks (zeros size))
-      (long k h ∙ sym (length-summed n otherBlocks (zeros size) ∙ length-zeros size))
-      (λ b l.
-      let m : b < size = omega (arith, long k h) in
-      sum-zero-term n k (λ i. getD (f i) b 0) h
-      (sym (getD-summed-zeros n f size b m) ∙ ap (λ (s : List ℕ). getD s b 0) z ∙ getD-zeros size b)
-      ∙ sym (others-at b) ∙ sym (getD-summed-zeros n otherBlocks size b m))
-
-  pub term-blocks-zero : f k ≡ summed n otherBlocks (zeros size) → summed n f (zeros size) ≡ zeros size
-  term-blocks-zero e =
-      ext-getD 0 (summed n f (zeros size)) (zeros size) (length-summed n f (zeros size))
-      (λ b l.
-      let m : b < size = omega (arith, length-summed n f (zeros size), length-zeros size) in
-      getD-summed-zeros n f size b m
-      ∙ term-sum-zero n k (λ i. getD (f i) b 0) h
-      (ap (λ (s : List ℕ). getD s b 0) e ∙ getD-summed-zeros n otherBlocks size b m ∙ others-at b)
-      ∙ sym (getD-zeros size b))

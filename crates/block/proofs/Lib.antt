@@ -2,6 +2,6 @@
 pub mod Xor
 pub mod Sums
 pub mod Blocks
-pub mod Turns
+pub mod Filled
 pub mod Zeros
 pub mod Carried

@@ -1,7 +1,7 @@
--- The laws of `xorTo`, the exclusive or of a function at the numbers below a bound: sums added, swapped and reordered, one term changed,
+-- The laws of `xorTo`, the exclusive or of a function at the numbers below a bound: sums added, swapped and reordered, one term left out,
 -- and that a sum is zero exactly when any one term is the sum of the others.
 -- Assumes nothing.
-use Prim.Native.Nat.{ℕ, zero, suc, _^_, _≤_, _<_}
+use Prim.Native.Nat.{ℕ, zero, suc, _^_, _<_}
 use mathlib.Core.Bool.{Bool, true, false, cond}
 use mathlib.Core.Path.{_≡_, refl, sym, ap, ap₂, _∙_}
 use native.Mathlib.Omega.{arith}
@@ -11,7 +11,7 @@ use lib.Dec.{eqb}
 use lib.Pow.{pow-pos}
 use Rattle.terms.specs.Sets.{xorTo}
 use Rattle.terms.proofs.Sets.{xorTo-cong}
-use Rattle.block.proofs.Xor.{xor-comm, xor-zero, zero-xor, xor-self, xor-four, xor-zero-eq, eq-xor-zero}
+use Rattle.block.proofs.Xor.{xor-zero, zero-xor, xor-four, xor-zero-eq, eq-xor-zero}
 
 -- f with v at k
 abbrev pub changedTo : ℕ → ℕ → (ℕ → ℕ) → ℕ → ℕ
@@ -20,12 +20,6 @@ changedTo k v f i = cond (eqb i k) v (f i)
 -- f without its term at k, which counts as zero
 abbrev pub others : ℕ → (ℕ → ℕ) → ℕ → ℕ
 others k f = changedTo k 0 f
-
-changed-same : (k v : ℕ) (f : ℕ → ℕ) → changedTo k v f k ≡ v
-changed-same k v f = rw (eq-eqb k k refl)
-
-changed-other : (k v : ℕ) (f : ℕ → ℕ) (i : ℕ) → (i ≡ k → ⊥) → changedTo k v f i ≡ f i
-changed-other k v f i h = rw (ne-eqb i k h)
 
 -- ---- terms that are zero, or bounded
 
@@ -84,24 +78,6 @@ sum-split n k f h =
     parts : (i : ℕ) (b : Bool) → eqb i k ≡ b → f i ≡ bitXor (cond (eqb i k) (f i) 0) (cond (eqb i k) 0 (f i))
     parts i true e = rw e (sym (xor-zero (f i)))
     parts i false e = rw e (sym (zero-xor (f i)))
-
--- one term changed: the old one goes, the new one comes
-pub sum-change : (n k v : ℕ) (f : ℕ → ℕ) → k < n → xorTo n (changedTo k v f) ≡ bitXor (xorTo n f) (bitXor (f k) v)
-sum-change n k v f h =
-    sum-split n k (changedTo k v f) h ∙ ap₂ bitXor (changed-same k v f) (xorTo-cong n (others k (changedTo k v f)) (others k f) (λ i l. same i (eqb i k) refl))
-    ∙ swap v (f k) (xorTo n (others k f)) ∙ ap (λ (x : ℕ). bitXor x (bitXor (f k) v)) (sym (sum-split n k f h))
-  where
-    same : (i : ℕ) (b : Bool) → eqb i k ≡ b → others k (changedTo k v f) i ≡ others k f i
-    same i true e = rw e
-    same i false e = rw e
-
-    swap : (v a r : ℕ) → bitXor v r ≡ bitXor (bitXor a r) (bitXor a v)
-    swap v a r =
-        sym (zero-xor (bitXor v r)) ∙ ap₂ bitXor (sym (xor-self a)) (xor-comm v r) ∙ xor-four a a r v
-
--- a term beyond the bound changed
-pub sum-change-beyond : (n k v : ℕ) (f : ℕ → ℕ) → n ≤ k → xorTo n (changedTo k v f) ≡ xorTo n f
-sum-change-beyond n k v f h = xorTo-cong n (changedTo k v f) f (λ i l. changed-other k v f i (omega arith))
 
 -- all terms sum to zero exactly when any one is the sum of the others
 pub sum-zero-term : (n k : ℕ) (f : ℕ → ℕ) → k < n → xorTo n f ≡ 0 → f k ≡ xorTo n (others k f)

@@ -1,13 +1,13 @@
 -- What is done to blocks, as lists of bytes.
 -- Assumes nothing.
 use Prim.Native.Nat.{ℕ, _+_}
-use mathlib.Core.Bool.{Bool, not, cond, _&&_}
+use mathlib.Core.Bool.{Bool, cond, _&&_}
 use mathlib.Core.List.{List}
 use lib.Bits.{bitXor}
 use lib.Dec.{ltb, leb, eqb}
 use lib.ListN.{length, getD, replicate}
 use Rattle.terms.specs.Lists.{tabulate, part, put, changes}
-use Rattle.terms.specs.Sets.{allBelow, lowest}
+use Rattle.terms.specs.Sets.{allBelow}
 
 -- block b copied to the front of a, byte by byte; a is as long as it was, and what b lacks stays: b itself where they are of one length
 unfoldable pub copied : List ℕ → List ℕ → List ℕ
@@ -33,7 +33,3 @@ summed n f a = changes n (λ k s. added s (f k)) a
 -- the first n bytes of a are all zero
 unfoldable pub allZero : ℕ → List ℕ → Bool
 allZero n a = allBelow n (λ i. eqb (getD a i 0) 0)
-
--- the lowest of the first n bytes of a that is not zero, and n where they all are
-unfoldable pub firstByte : ℕ → List ℕ → ℕ
-firstByte n a = lowest n (λ i. not (eqb (getD a i 0) 0))

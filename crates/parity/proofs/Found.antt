@@ -5,18 +5,21 @@ use mathlib.Core.Bool.{Bool, true, false, cond, not, _&&_}
 use mathlib.Core.List.{List}
 use mathlib.Core.Path.{_≡_, refl, sym, ap, _∙_}
 use native.Mathlib.Omega.{arith}
-use borrow.Author.Tests.{eq-eqb, ne-eqb, eqb-true, lt-ltb, le-ltb}
+use borrow.Author.Tests.{eq-eqb, ne-eqb, eqb-true, lt-ltb, le-ltb, ltb-true, ltb-false}
 use lib.Dec.{ltb, eqb}
 use lib.ListN.{length, getD}
+use lib.Seq.{ext-getD}
 use Rattle.terms.specs.Lists.{part}
 use Rattle.terms.specs.Reply.{Reply, accepted}
 use Rattle.terms.specs.Sets.{lowest}
 use Rattle.terms.proofs.Lists.{getD-part}
 use Rattle.terms.proofs.Sets.{allBelow-elim, lowest-is, lowest-none, xorTo-cong}
 use Rattle.block.specs.Blocks.{summed, zeros, allZero}
-use Rattle.block.proofs.Blocks.{length-summed, getD-summed-zeros}
+use Rattle.block.proofs.Blocks.{length-zeros, getD-zeros, length-summed, getD-summed-zeros, getD-summed-beyond}
 use Rattle.geometry.specs.Store.{cellAt}
+use Rattle.parity.specs.Fitting.{Fitting}
 use Rattle.parity.specs.Parity.{cell, byteAt, parityByte, wrongByte, wrongStripe, rightParity, disagreement, looked}
+use Rattle.parity.proofs.Inside.{length-cell}
 
 -- what is looked at: N, S, B, the image, and the stripes that are passed over
 pub record Looking : Type 0 where
@@ -88,18 +91,35 @@ module _ (l : Looking) where
       (λ c. getD (l .image) (cellAt (l .stripes) (l .block) c s + b) 0)
       (λ c n. getD-part (cellAt (l .stripes) (l .block) c s) (l .block) (l .image) b 0 m)
 
-  module _ (s : ℕ) (sum : List ℕ) (small : l .block ≤ 512) (is : sum ≡ sumIn l s) where
-    pub sum-length : 512 ≡ length sum
-    sum-length = sym (ap length is ∙ length-summed (l .cards) (cell (l .stripes) (l .block) (l .image) s) (zeros 512))
+  -- the sum after a stripe that began with zero bytes
+  module _ (fit : Fitting (l .cards) (l .stripes) (l .block) (l .image)) (s : ℕ) (hs : s < l .stripes) (old sum : List ℕ) (clear : old ≡ zeros 512)
+      (new : sum ≡ summed (l .cards) (cell (l .stripes) (l .block) (l .image) s) old) where
+    is : sum ≡ sumIn l s
+    is = new ∙ ap (summed (l .cards) (cell (l .stripes) (l .block) (l .image) s)) clear
+
+    sum-length : length sum ≡ 512
+    sum-length = ap length is ∙ length-summed (l .cards) (cell (l .stripes) (l .block) (l .image) s) (zeros 512)
 
     at : (k : ℕ) → k < l .block → getD sum k 0 ≡ parityIn l s k
-    at k m = ap (λ (t : List ℕ). getD t k 0) is ∙ sum-byte s k small m
+    at k m = ap (λ (t : List ℕ). getD t k 0) is ∙ sum-byte s k (fit .block) m
 
-    -- its bytes are zero
-    pub sum-right : ((k : ℕ) → k < l .block → getD sum k 0 ≡ 0) → reports l s ≡ false
-    sum-right z = reports-right s (byte-none s (λ k m. sym (at k m) ∙ z k m))
+    -- its bytes are zero: the stripe is right, and beyond its block the sum was never touched, so that the next stripe begins with zero bytes too
+    pub sum-right : ((k : ℕ) → k < l .block → getD sum k 0 ≡ 0) → (reports l s ≡ false) × (sum ≡ zeros 512)
+    sum-right z = (
+      reports-right s (byte-none s (λ k m. sym (at k m) ∙ z k m)),
+      ext-getD 0 sum (zeros 512) (sum-length ∙ sym (length-zeros 512))
+          (λ k m. place k (omega (arith, sum-length, length-zeros 512)) (ltb k (l .block)) refl),
+    )
+      where
+        place : (k : ℕ) → k < length (zeros 512) → (b : Bool) → ltb k (l .block) ≡ b → getD sum k 0 ≡ getD (zeros 512) k 0
+        place k m true t = z k (ltb-true k (l .block) t) ∙ sym (getD-zeros 512 k)
+        place k m false t =
+            let beyond : l .block ≤ k = ltb-false k (l .block) t in
+            ap (λ (t : List ℕ). getD t k 0) is
+            ∙ getD-summed-beyond (l .cards) (cell (l .stripes) (l .block) (l .image) s) (zeros 512) k m
+            (λ c hc. omega (arith, length-cell fit s c hs hc))
 
-    pub sum-clear : allZero (l .block) sum ≡ true → reports l s ≡ false
+    pub sum-clear : allZero (l .block) sum ≡ true → (reports l s ≡ false) × (sum ≡ zeros 512)
     unfolding allZero
     sum-clear e = sum-right (λ k m. eqb-true (getD sum k 0) 0 (allBelow-elim (l .block) (λ i. eqb (getD sum i 0) 0) e k m))
 

@@ -2,12 +2,15 @@
 -- Assumes nothing.
 use Prim.Native.Nat.{ℕ, _+_, _*_, _≤_, _<_}
 use mathlib.Core.List.{List}
+use mathlib.Core.Path.{_≡_}
 use native.Mathlib.Nat.{mul-le-mul}
 use native.Mathlib.Omega.{arith}
 use lib.ListN.{length}
+use Rattle.terms.proofs.Lists.{length-part}
 use Rattle.geometry.specs.Store.{cellAt}
 use Rattle.geometry.proofs.Apart.{cell-inside}
 use Rattle.parity.specs.Fitting.{Fitting}
+use Rattle.parity.specs.Parity.{cell}
 
 module _ {N S B : ℕ} {image : List ℕ} (f : Fitting N S B image) (s c : ℕ) (hs : s < S) (hc : c < N) where
   pub row-small : c * S ≤ 8192
@@ -24,3 +27,8 @@ module _ {N S B : ℕ} {image : List ℕ} (f : Fitting N S B image) (s c : ℕ) 
   pub cell-ends : (c * S + s) * B + B ≤ length image
   unfolding cellAt
   cell-ends = omega (arith, cell-inside N S B c s hc hs, f .whole)
+
+  -- and has B bytes
+  pub length-cell : length (cell S B image s c) ≡ B
+  unfolding cell cellAt
+  length-cell = length-part ((c * S + s) * B) B image cell-ends

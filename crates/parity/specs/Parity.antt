@@ -8,11 +8,16 @@ use lib.ListN.{getD}
 use Rattle.terms.specs.Lists.{part, every}
 use Rattle.terms.specs.Reply.{Reply, accepted}
 use Rattle.terms.specs.Sets.{lowest, xorTo}
+use Rattle.block.specs.Blocks.{zeros}
 use Rattle.geometry.specs.Store.{cellAt}
 
 -- the block of card c in stripe s: a part of the image that starts in its middle
 unfoldable pub cell : ℕ → ℕ → List ℕ → ℕ → ℕ → List ℕ
 cell S B image s c = part (cellAt S B c s) B image
+
+-- the same, and as many zero bytes where there is no card c among the N
+unfoldable pub cellOrNone : ℕ → ℕ → ℕ → List ℕ → ℕ → ℕ → List ℕ
+cellOrNone N S B image s c = cond (ltb c N) (cell S B image s c) (zeros B)
 
 -- byte b of the block of card c in stripe s
 unfoldable pub byteAt : ℕ → ℕ → List ℕ → ℕ → ℕ → ℕ → ℕ

@@ -9,7 +9,7 @@ use lib.Bits.{bitXor}
 use lib.ListN.{length, getD, length-set, List·getD-eq-default}
 use Rattle.block.specs.Blocks.{added}
 use Rattle.block.proofs.Xor.{xor-zero}
-use Rattle.block.proofs.Turns.{turned, turned-none, turned-next, turned-store, turned-all}
+use Rattle.block.proofs.Filled.{filled, filled-none, filled-next, filled-store, filled-all}
 use Rattle.block.proofs.add_bytes.Statement.{statement}
 use Rattle.block.proofs.add_bytes.Tie as tie
 
@@ -18,7 +18,7 @@ abbrev byte : List ℕ → List ℕ → ℕ → ℕ
 byte sum block k = bitXor (getD sum k 0) (getD block k 0)
 
 abbrev Inv-loop : tie.InvT-loop
-Inv-loop sum₀ block n i₀ sum i = (i ≤ n) × (sum ≡ turned (byte sum₀ block) i sum₀) × (length sum ≡ length sum₀)
+Inv-loop sum₀ block n i₀ sum i = (i ≤ n) × (sum ≡ filled (byte sum₀ block) i sum₀) × (length sum ≡ length sum₀)
 
 abbrev μ-loop : tie.MeasureT-loop
 μ-loop sum₀ block n i₀ sum i = n - i
@@ -29,7 +29,7 @@ least-requires c κs = search needs
 loop-holds : tie.Need-loop-holds Inv-loop μ-loop
 loop-holds c =
     let args = c .before .before .before .args in
-    (search needs, turned-none (byte (args .sum .now) (args .block .now)) (args .sum .now), refl)
+    (search needs, filled-none (byte (args .sum .now) (args .block .now)) (args .sum .now), refl)
 
 slice-read-sum : tie.Need-slice-read-sum Inv-loop μ-loop
 slice-read-sum c = search needs
@@ -54,8 +54,8 @@ loop-again c =
     let block = args .block .now in
     let inside : at .i < length sum = omega arith in (
       search needs,
-      turned-store (byte sum block) sum (at .sum) (at .i) (bitXor (getD (at .sum) (at .i) 0) (getD block (at .i) 0)) (at .inv .1) inside
-          (ap (λ (x : ℕ). bitXor x (getD block (at .i) 0)) (turned-next (byte sum block) sum (at .sum) (at .i) (at .inv .1) inside)),
+      filled-store (byte sum block) sum (at .sum) (at .i) (bitXor (getD (at .sum) (at .i) 0) (getD block (at .i) 0)) (at .inv .1) inside
+          (ap (λ (x : ℕ). bitXor x (getD block (at .i) 0)) (filled-next (byte sum block) sum (at .sum) (at .i) (at .inv .1) inside)),
       length-set (at .sum) (at .i) (bitXor (getD (at .sum) (at .i) 0) (getD block (at .i) 0)) ∙ at .inv .2,
     )
 
@@ -70,7 +70,7 @@ returns c =
     let sum = args .sum .now in
     let block = args .block .now in
     at .inv .1
-    ∙ turned-all (byte sum block) sum (at .i)
+    ∙ filled-all (byte sum block) sum (at .i)
     (λ k h m.
     sym (ap (λ (x : ℕ). bitXor (getD sum k 0) x) (List·getD-eq-default block 0 (omega arith)) ∙ xor-zero (getD sum k 0)))
 

@@ -10,7 +10,7 @@ use borrow.Author.Tests.{lt-ltb, le-ltb}
 use lib.Dec.{ltb}
 use lib.ListN.{length, getD, length-set}
 use Rattle.block.specs.Blocks.{copied}
-use Rattle.block.proofs.Turns.{turned, turned-none, turned-store, turned-all}
+use Rattle.block.proofs.Filled.{filled, filled-none, filled-store, filled-all}
 use Rattle.block.proofs.copy.Statement.{statement}
 use Rattle.block.proofs.copy.Tie as tie
 
@@ -19,7 +19,7 @@ abbrev byte : List ℕ → List ℕ → ℕ → ℕ
 byte dst src k = cond (ltb k (length src)) (getD src k 0) (getD dst k 0)
 
 abbrev Inv-loop : tie.InvT-loop
-Inv-loop dst₀ src n i₀ dst i = (i ≤ n) × (dst ≡ turned (byte dst₀ src) i dst₀) × (length dst ≡ length dst₀)
+Inv-loop dst₀ src n i₀ dst i = (i ≤ n) × (dst ≡ filled (byte dst₀ src) i dst₀) × (length dst ≡ length dst₀)
 
 abbrev μ-loop : tie.MeasureT-loop
 μ-loop dst₀ src n i₀ dst i = n - i
@@ -28,7 +28,7 @@ least-requires : tie.Need-least-requires Inv-loop μ-loop
 least-requires c κs = search needs
 
 loop-holds : tie.Need-loop-holds Inv-loop μ-loop
-loop-holds c = (search needs, turned-none (byte (c .before .before .before .args .dst .now) (c .before .before .before .args .src .now)) (c .before .before .before .args .dst .now), refl)
+loop-holds c = (search needs, filled-none (byte (c .before .before .before .args .dst .now) (c .before .before .before .args .src .now)) (c .before .before .before .args .dst .now), refl)
 
 shared-slice-read-dst : tie.Need-shared-slice-read-dst Inv-loop μ-loop
 shared-slice-read-dst c = search needs
@@ -49,7 +49,7 @@ loop-again c =
     let dst = args .dst .now in
     let src = args .src .now in (
       search needs,
-      turned-store (byte dst src) dst (at .dst) (at .i) (getD src (at .i) 0) (at .inv .1) (omega arith) (rw (lt-ltb (at .i) (length src) (omega arith))),
+      filled-store (byte dst src) dst (at .dst) (at .i) (getD src (at .i) 0) (at .inv .1) (omega arith) (rw (lt-ltb (at .i) (length src) (omega arith))),
       length-set (at .dst) (at .i) (getD src (at .i) 0) ∙ at .inv .2,
     )
 
@@ -63,7 +63,7 @@ returns c =
     let args = c .before .before .before .before .before .args in
     let dst = args .dst .now in
     let src = args .src .now in
-    at .inv .1 ∙ turned-all (byte dst src) dst (at .i) (λ k h m. rw (le-ltb k (length src) (omega arith)))
+    at .inv .1 ∙ filled-all (byte dst src) dst (at .i) (λ k h m. rw (le-ltb k (length src) (omega arith)))
 
 pub copy-spec : {M : Type 1} → statement M
 copy-spec =

@@ -10,10 +10,11 @@ use native.Mathlib.Omega.{arith}
 use borrow.Author.Count.{below-none, below-more}
 use borrow.Author.Needs.{needs}
 use lib.ListN.{getD}
+use Rattle.block.specs.Blocks.{zeros}
 use Rattle.geometry.proofs.Flags.{fails, holds}
 use Rattle.parity.specs.Parity.{passes}
 use Rattle.parity.specs.Scan.{reply, scanOf}
-use Rattle.parity.proofs.Found.{Looking, wrongIn, reports, reports-passed, sum-length, sum-right, sum-clear, sum-wrong, sum-wrong-byte, looked-right, looked-wrong}
+use Rattle.parity.proofs.Found.{Looking, wrongIn, reports, reports-passed, sum-right, sum-clear, sum-wrong, sum-wrong-byte, looked-right, looked-wrong}
 use Rattle.parity.proofs.look.Statement.{statement}
 use Rattle.parity.proofs.look.Tie as tie
 
@@ -23,40 +24,33 @@ looking cards stripes size image skip =
     record { cards = cards; stripes = stripes; block = size; image = image; pass = passes skip }
 
 abbrev Inv-loop : tie.InvT-loop
-Inv-loop image cards stripes size skip stripe byte₀ sum byte = (byte ≤ size) × ((k : ℕ) → k < byte → getD sum k 0 ≡ 0)
+Inv-loop image cards stripes size skip none sum stripe byte₀ byte = (byte ≤ size) × ((k : ℕ) → k < byte → getD sum k 0 ≡ 0)
 
 abbrev μ-loop : tie.MeasureT-loop
-μ-loop image cards stripes size skip stripe byte₀ sum byte = size - byte
+μ-loop image cards stripes size skip none sum stripe byte₀ byte = size - byte
 
 abbrev Inv-scan : tie.InvT-scan
-Inv-scan image cards stripes size skip stripe₀ byte₀ stripe byte =
-    (stripe ≤ stripes) × ((j : ℕ) → j < stripe → reports (looking cards stripes size image skip) j ≡ false)
+Inv-scan image cards stripes size skip none sum₀ stripe₀ byte₀ sum stripe byte =
+    (stripe ≤ stripes) × ((j : ℕ) → j < stripe → reports (looking cards stripes size image skip) j ≡ false) × (sum ≡ zeros 512)
 
 abbrev μ-scan : tie.MeasureT-scan
-μ-scan image cards stripes size skip stripe₀ byte₀ stripe byte = stripes - stripe
+μ-scan image cards stripes size skip none sum₀ stripe₀ byte₀ sum stripe byte = stripes - stripe
 
 -- at the function's arguments
 abbrev at-start : tie.Start Inv-loop μ-loop Inv-scan μ-scan → Looking
 at-start c = looking (c .args .cards) (c .args .stripes) (c .args .size) (c .args .image .now) (c .args .skip)
 
 scan-holds : tie.Need-scan-holds Inv-loop μ-loop Inv-scan μ-scan
-scan-holds c = (search needs, below-none _)
+scan-holds c = (search needs, below-none _, refl)
 
 is-passed-requires : tie.Need-is-passed-requires Inv-loop μ-loop Inv-scan μ-scan
 is-passed-requires c κs = search needs
 
+slice-aggregate-add-cards : tie.Need-slice-aggregate-add-cards Inv-loop μ-loop Inv-scan μ-scan
+slice-aggregate-add-cards c = refl
+
 add-cards-requires : tie.Need-add-cards-requires Inv-loop μ-loop Inv-scan μ-scan
 add-cards-requires c κs = search needs
-
-slice-aggregate-all-zero : tie.Need-slice-aggregate-all-zero Inv-loop μ-loop Inv-scan μ-scan
-slice-aggregate-all-zero c =
-    let start = c .before .before .before .before .before .before .before .before in
-    let s = c .before .before .before .before .before .before .scan .stripe in
-    sum-length (at-start start) s (c .before .add-cards .last .0) (start .pre .block)
-    (c .before .add-cards .ensures)
-
-all-zero-requires : tie.Need-all-zero-requires Inv-loop μ-loop Inv-scan μ-scan
-all-zero-requires c κs = search needs
 
 loop-holds : tie.Need-loop-holds Inv-loop μ-loop Inv-scan μ-scan
 loop-holds c = (search needs, below-none _)
@@ -79,20 +73,27 @@ add-stripe c = search needs
 scan-less : tie.Need-scan-less Inv-loop μ-loop Inv-scan μ-scan
 scan-less c = search needs
 
+-- the sum goes on by another name
+after : {P : Type 0} {sum old : List ℕ} → sum ≡ old → P × (old ≡ zeros 512) → P × (sum ≡ zeros 512)
+after e p = (p .0, e ∙ p .1)
+
 scan-again : tie.Need-scan-again Inv-loop μ-loop Inv-scan μ-scan
 scan-again c =
     let start = c .before .before .before .before .before in
-    let s = c .before .before .before .scan .stripe in
-    let fine : reports (at-start start) s ≡ false =
+    let at = c .before .before .before .scan in
+    let inside = c .before .before .scan-test .taken in
+    let fine : (reports (at-start start) (at .stripe) ≡ false) × (c .if1 .sum ≡ zeros 512) =
     ⊎-elim
-    (λ w. sum-right (at-start start) s (w .2 .last .0) (start .pre .block) (w .2 .ensures)
-    (λ k l. w .6 .inv .1 k (omega (arith, w .7 .left))))
+    (λ w. after (w .7)
+    (sum-right (at-start start) (start .pre) (at .stripe) inside (at .sum) (w .3 .last .0) (at .inv .2) (w .3 .ensures .0)
+    (λ k l. w .5 .inv .1 k (omega (arith, w .6 .left)))))
     (⊎-elim
-    (λ w. sum-clear (at-start start) s (w .2 .last .0) (start .pre .block) (w .2 .ensures)
-    (holds (w .4 .ensures) (w .5 .left)))
-    (λ w. reports-passed (at-start start) s (holds (c .before .is-passed .ensures) (w .0 .left))))
+    (λ w. after (w .5)
+    (sum-clear (at-start start) (start .pre) (at .stripe) inside (at .sum) (w .3 .last .0) (at .inv .2) (w .3 .ensures .0)
+    (holds (w .3 .ensures .1) (w .4 .left))))
+    (λ w. (reports-passed (at-start start) (at .stripe) (holds (c .before .is-passed .ensures) (w .0 .left)), w .1 ∙ at .inv .2)))
     (c .if1 .came) in
-    (search needs, below-more _ _ (c .before .before .before .scan .inv .1) fine)
+    (search needs, below-more _ _ (at .inv .1) (fine .0), fine .1)
 
 returns : tie.Need-returns Inv-loop μ-loop Inv-scan μ-scan
 unfolding reply scanOf
@@ -110,14 +111,14 @@ returns-2 c = (
       ⊎-elim
       (λ w. absurd (c .if4 .left (omega (arith, at .inv .0, w .0 .left))))
       (λ w.
-      let b = w .8 .byte in
+      let b = w .7 .byte in
       let wrong : wrongIn (at-start start) (at .stripe) ≡ b =
-      sum-wrong-byte (at-start start) (at .stripe) (w .4 .last .0) (start .pre .block) (w .4 .ensures) b
-      (w .9 .taken) (w .10 .taken) (w .8 .inv .1) in
+      sum-wrong-byte (at-start start) (start .pre) (at .stripe) (w .0 .taken) (at .sum) (w .5 .last .0) (at .inv .2) (w .5 .ensures .0) b
+      (w .8 .taken) (w .9 .taken) (w .7 .inv .1) in
       looked-wrong (at-start start) (at .stripe) (c .before .scan-test .byte) (w .0 .taken)
-      (sum-wrong (at-start start) (at .stripe) (w .4 .last .0) (start .pre .block) (w .4 .ensures) b
-      (w .9 .taken) (w .10 .taken) (w .8 .inv .1) (fails (w .1 .ensures) (w .2 .taken)))
-      (at .inv .1) (wrong ∙ sym (w .11)))
+      (sum-wrong (at-start start) (start .pre) (at .stripe) (w .0 .taken) (at .sum) (w .5 .last .0) (at .inv .2) (w .5 .ensures .0) b
+      (w .8 .taken) (w .9 .taken) (w .7 .inv .1) (fails (w .1 .ensures) (w .2 .taken)))
+      (at .inv .1) (wrong ∙ sym (w .10)))
       (c .before .scan-test .came),
   refl,
 )
@@ -132,9 +133,8 @@ look-spec =
     μ-scan
     scan-holds
     is-passed-requires
+    slice-aggregate-add-cards
     add-cards-requires
-    slice-aggregate-all-zero
-    all-zero-requires
     loop-holds
     array-read-if3
     add-byte
