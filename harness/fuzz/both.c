@@ -30,37 +30,6 @@ static void stop(const char *what, const struct ask *ask, uint64_t tested, uint6
     abort();
 }
 
-static uint64_t make_plain(const struct ask *ask, struct side *s)
-{
-    const uint64_t *n = ask->number;
-    switch (ask->call) {
-    case PLACE:
-        return plain_place(n[0], n[1], n[2]);
-    case BLOCK_AT:
-        return plain_block_at(n[0], n[1], n[2], n[3]);
-    case SCAN:
-        return plain_scan(s->state.cards, s->state.stripes, s->state.block, s->state.records,
-                          s->state.out, s->state.lost, s->image, s->image_len);
-    case OPEN:
-        return plain_open(&s->state, s->table, s->table_len, s->work, s->work_len, s->image,
-                          s->image_len, n[0], n[1], n[2], n[3], n[4]);
-    case ADMIT:
-        return plain_admit(&s->state, s->table, s->table_len, s->work, s->work_len, s->image,
-                           s->image_len, n[0], n[1], n[2], s->payload, s->payload_len);
-    case STEP:
-        return plain_step(&s->state, s->table, s->table_len, s->work, s->work_len, s->image,
-                          s->image_len, n[0], n[1]);
-    case REPORT:
-        return plain_report(&s->state, n[0]);
-    case COLLECT:
-        return plain_collect(&s->state, s->table, s->table_len, s->work, s->work_len, n[0],
-                             s->result, s->result_len);
-    case CHECK:
-        return plain_check(&s->state, s->table, s->table_len, s->image, s->image_len);
-    }
-    abort();
-}
-
 static uint64_t make_tested(const struct ask *ask, struct side *s, int at_end)
 {
     const uint64_t *n = ask->number;
