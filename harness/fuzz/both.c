@@ -18,7 +18,7 @@ void both_begin(void)
         room_make(rooms[at]);
 }
 
-int accepted(uint64_t answer) { return (answer & 0xFFFF) == 0; }
+int accepted(uint64_t answer) { return coppicetune_number(answer) == COPPICETUNE_ACCEPTED; }
 
 static void stop(const char *what, const struct ask *ask, uint64_t tested, uint64_t plain)
 {
