@@ -86,7 +86,7 @@ uint64_t coppicetune_scan(uint64_t cards, uint64_t stripes, uint64_t block, uint
 /* ---- the engine: the same state, table, work store and image go from call to call */
 
 /* Opens an array of so many cards, stripes, bytes in a block and records, with card `out` out, or 255 for none; with none out parity must be
- * right. Accepted, it frees every record. What was in `state` does not matter: the new state is stored there, all zero if refused.
+ * right. Accepted, it stores the new state, whatever was in `state`, and frees every record; refused, all stays as it was.
  * Values: none. Refused by 1, 2 or 13; 13 has the lowest stripe and the lowest byte in it where parity disagrees. */
 uint64_t coppicetune_open(struct coppicetune_state *state, struct coppicetune_record *table, size_t table_len,
                           const uint8_t *work, size_t work_len, const uint8_t *image, size_t image_len, uint64_t cards,

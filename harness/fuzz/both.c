@@ -84,10 +84,10 @@ static uint64_t make_tested(const struct ask *ask, struct side *s, int at_end)
     return answer;
 }
 
-/* The used parts of two sides are equal, but for the state if `states` is 0. */
-static int same(const struct side *a, const struct side *b, int states)
+/* The used parts of two sides are equal. */
+static int same(const struct side *a, const struct side *b)
 {
-    return (!states || memcmp(&a->state, &b->state, sizeof a->state) == 0) &&
+    return memcmp(&a->state, &b->state, sizeof a->state) == 0 &&
            memcmp(a->table, b->table, a->table_len * sizeof *a->table) == 0 &&
            memcmp(a->work, b->work, a->work_len) == 0 &&
            memcmp(a->image, b->image, a->image_len) == 0 &&
@@ -113,9 +113,9 @@ uint64_t make(const struct ask *ask, int at_end)
     uint64_t tested = make_tested(ask, &theirs, at_end);
     if (tested != plain)
         stop("answers differ", ask, tested, plain);
-    if (!same(&theirs, &ours, 1))
+    if (!same(&theirs, &ours))
         stop("what was lent differs", ask, tested, plain);
-    if (!accepted(tested) && !same(&theirs, &before, ask->call != OPEN))
+    if (!accepted(tested) && !same(&theirs, &before))
         stop("a refusal altered something", ask, tested, plain);
     return tested;
 }

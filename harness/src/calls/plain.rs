@@ -35,7 +35,9 @@ impl Calls for Plain {
 
     fn open(&self, lent: &mut Lent, asked: &State) -> u64 {
         let opened = plain::open(asked, lent.table, lent.work, lent.image);
-        *lent.state = opened.unwrap_or_default();
+        if let Ok(state) = opened {
+            *lent.state = state;
+        }
         answer(opened, |_| (0, 0))
     }
 

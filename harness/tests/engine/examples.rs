@@ -88,9 +88,10 @@ fn graphs_are_chosen_as_the_paper_says() {
 fn limits() {
     let calls = tested();
     let opened = |cards, stripes, block| {
-        let mut side = Side { table: vec![Record::default()], ..Side::default() };
+        let before = State::whole(4, 4, 32);
+        let mut side = Side { state: before, table: vec![Record::default()], ..Side::default() };
         let answer = calls.open(&mut side.lent(), &State::whole(cards, stripes, block));
-        assert_eq!(side.state, State::default());
+        assert_eq!(side.state, before);
         answer
     };
     assert_eq!(opened(2, 5, 16), 1);

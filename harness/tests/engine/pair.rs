@@ -134,14 +134,8 @@ impl<'a> Pair<'a> {
         if let Some(what) = self.difference() {
             return told(&what);
         }
-        if theirs.number != 0 {
-            let mut before = self.before.clone();
-            if let Call::Open { .. } = call {
-                before.state = State::default();
-            }
-            if self.theirs != before || *result != filled {
-                return told("a refused call altered something");
-            }
+        if theirs.number != 0 && (self.theirs != self.before || *result != filled) {
+            return told("a refused call altered something");
         }
         Ok(theirs)
     }
