@@ -8,9 +8,41 @@
 #include <stddef.h>
 #include <stdint.h>
 
+/* Grows with every change to a struct, to a function's arguments or to what an answer means. */
+#define COPPICETUNE_VERSION 1
+
 #ifdef __cplusplus
 extern "C" {
 #endif
+
+/* In place of a card: none is out. */
+enum { COPPICETUNE_NONE = 255 };
+
+/* The number of an answer: accepted, or why the call is refused. */
+enum {
+    COPPICETUNE_ACCEPTED = 0,
+    COPPICETUNE_BEYOND = 1,      /* a number of the state is beyond its limits */
+    COPPICETUNE_LENGTH = 2,      /* the image, the table or the work store is of another length */
+    COPPICETUNE_UNSOUND = 3,     /* the table is not sound */
+    COPPICETUNE_LOST = 4,        /* the array is lost */
+    COPPICETUNE_RANGE = 5,       /* a block, card, stripe or record number is out of range */
+    COPPICETUNE_MASK = 6,        /* the mask is zero, or has a bit beyond the units */
+    COPPICETUNE_BUFFER = 7,      /* the payload is of another length, or the result buffer too small */
+    COPPICETUNE_HELD = 8,        /* an open request holds the stripe */
+    COPPICETUNE_FULL = 9,        /* no record is free */
+    COPPICETUNE_PHASE = 10,      /* the record is not open (step), or not finished (collect) */
+    COPPICETUNE_NOT_READY = 11,  /* the step is not in the graph, is done, or lacks one that must come before */
+    COPPICETUNE_OUT = 12,        /* that card is already out (report), or a card is out (scan, check) */
+    COPPICETUNE_DISAGREES = 13   /* parity disagrees; the values are the lowest stripe and the lowest byte in it */
+};
+
+/* The phase of a record. */
+enum { COPPICETUNE_FREE = 0, COPPICETUNE_OPEN = 1, COPPICETUNE_FINISHED = 2 };
+
+/* The number of an answer, and its two values; a value that it does not have is 0. */
+static inline uint64_t coppicetune_number(uint64_t answer) { return answer & 0xffff; }
+static inline uint64_t coppicetune_first(uint64_t answer) { return answer >> 16 & 0xffff; }
+static inline uint64_t coppicetune_second(uint64_t answer) { return answer >> 32; }
 
 /* An open array. coppicetune_open fills it in, and coppicetune_report alters it. */
 struct coppicetune_state {
@@ -18,18 +50,18 @@ struct coppicetune_state {
     uint64_t stripes; /* S, 1 to 1,024 */
     uint64_t block;   /* B, the bytes in a block: 16 to 512, a multiple of 16 */
     uint64_t records; /* K, the request records: 1 to 8 */
-    uint64_t out;     /* the card that is out, or 255 for none */
+    uint64_t out;     /* the card that is out, or COPPICETUNE_NONE */
     uint64_t lost;    /* 0: the array is not lost */
 };
 
 /* A request record. A free one is all zero. */
 struct coppicetune_record {
-    uint64_t phase;  /* free, open or finished: 0, 1, 2 */
+    uint64_t phase;  /* COPPICETUNE_FREE, _OPEN or _FINISHED */
     uint64_t write;  /* read or write: 0, 1 */
     uint64_t stripe;
     uint64_t mask;   /* bit i is unit i */
     uint64_t graph;
-    uint64_t chosen; /* the card that was out when the graph was chosen, or 255 */
+    uint64_t chosen; /* the card that was out when the graph was chosen, or COPPICETUNE_NONE */
     uint64_t done;   /* the done steps: bit k is step k */
     uint64_t count;  /* the accepted steps since admission */
 };
@@ -54,7 +86,7 @@ uint64_t coppicetune_scan(uint64_t cards, uint64_t stripes, uint64_t block, uint
 /* ---- the engine: the same state, table, work store and image go from call to call */
 
 /* Opens an array of so many cards, stripes, bytes in a block and records, with card `out` out, or 255 for none; with none out parity must be
- * right. Accepted, it frees every record. What was in `state` does not matter: the new state is stored there, all zero if refused.
+ * right. Accepted, it stores the new state, whatever was in `state`, and frees every record; refused, all stays as it was.
  * Values: none. Refused by 1, 2 or 13; 13 has the lowest stripe and the lowest byte in it where parity disagrees. */
 uint64_t coppicetune_open(struct coppicetune_state *state, struct coppicetune_record *table, size_t table_len,
                           const uint8_t *work, size_t work_len, const uint8_t *image, size_t image_len, uint64_t cards,

@@ -12,69 +12,89 @@ static uint64_t packed(uint64_t number, uint64_t first, uint64_t second)
     return number + first * 65536u + second * UINT64_C(4294967296);
 }
 
-static void expect(const char *call, uint64_t answer, uint64_t right)
+/* The answer is right, and the header's functions take it apart again. */
+static void expect(const char *call, uint64_t answer, uint64_t number, uint64_t first, uint64_t second)
 {
-    if (answer != right) {
+    uint64_t right = packed(number, first, second);
+    int same = coppicetune_number(answer) == number && coppicetune_first(answer) == first &&
+               coppicetune_second(answer) == second;
+    if (answer != right || !same) {
         printf("%s answers %" PRIu64 ", and %" PRIu64 " is right\n", call, answer, right);
         wrong++;
     }
 }
 
-#define EXPECT(call, number, first, second) expect(#call, call, packed(number, first, second))
+#define EXPECT(call, number, first, second) expect(#call, call, COPPICETUNE_##number, first, second)
 
 static void place(void)
 {
-    EXPECT(coppicetune_place(5, 5, 0), 0, 0, 0);
-    EXPECT(coppicetune_place(5, 5, 7), 0, 2, 1);
-    EXPECT(coppicetune_place(5, 5, 10), 0, 0, 2);
-    EXPECT(coppicetune_place(5, 5, 19), 0, 4, 4);
-    EXPECT(coppicetune_place(5, 5, 20), 5, 0, 0);
-    EXPECT(coppicetune_place(8, 1024, 7167), 0, 7, 1023);
-    EXPECT(coppicetune_place(8, 1024, 7168), 5, 0, 0);
-    EXPECT(coppicetune_place(2, 5, 0), 1, 0, 0);
-    EXPECT(coppicetune_place(9, 5, 0), 1, 0, 0);
-    EXPECT(coppicetune_place(5, 0, 0), 1, 0, 0);
-    EXPECT(coppicetune_place(5, 1025, 0), 1, 0, 0);
-    EXPECT(coppicetune_place(UINT64_MAX, UINT64_MAX, UINT64_MAX), 1, 0, 0);
-    EXPECT(coppicetune_place(5, 5, UINT64_MAX), 5, 0, 0);
+    EXPECT(coppicetune_place(5, 5, 0), ACCEPTED, 0, 0);
+    EXPECT(coppicetune_place(5, 5, 7), ACCEPTED, 2, 1);
+    EXPECT(coppicetune_place(5, 5, 10), ACCEPTED, 0, 2);
+    EXPECT(coppicetune_place(5, 5, 19), ACCEPTED, 4, 4);
+    EXPECT(coppicetune_place(5, 5, 20), RANGE, 0, 0);
+    EXPECT(coppicetune_place(8, 1024, 7167), ACCEPTED, 7, 1023);
+    EXPECT(coppicetune_place(8, 1024, 7168), RANGE, 0, 0);
+    EXPECT(coppicetune_place(2, 5, 0), BEYOND, 0, 0);
+    EXPECT(coppicetune_place(9, 5, 0), BEYOND, 0, 0);
+    EXPECT(coppicetune_place(5, 0, 0), BEYOND, 0, 0);
+    EXPECT(coppicetune_place(5, 1025, 0), BEYOND, 0, 0);
+    EXPECT(coppicetune_place(UINT64_MAX, UINT64_MAX, UINT64_MAX), BEYOND, 0, 0);
+    EXPECT(coppicetune_place(5, 5, UINT64_MAX), RANGE, 0, 0);
 }
 
 static void block_at(void)
 {
-    EXPECT(coppicetune_block_at(5, 5, 3, 1), 0, 1, 0);
-    EXPECT(coppicetune_block_at(5, 5, 2, 1), 0, 0, 7);
-    EXPECT(coppicetune_block_at(5, 5, 4, 0), 0, 1, 0);
-    EXPECT(coppicetune_block_at(5, 5, 4, 4), 0, 0, 19);
-    EXPECT(coppicetune_block_at(8, 1024, 7, 1023), 0, 0, 7167);
-    EXPECT(coppicetune_block_at(8, 1024, 0, 1023), 0, 1, 0);
-    EXPECT(coppicetune_block_at(5, 5, 5, 0), 5, 0, 0);
-    EXPECT(coppicetune_block_at(5, 5, 0, 5), 5, 0, 0);
-    EXPECT(coppicetune_block_at(5, 5, UINT64_MAX, UINT64_MAX), 5, 0, 0);
-    EXPECT(coppicetune_block_at(2, 5, 0, 0), 1, 0, 0);
-    EXPECT(coppicetune_block_at(5, 1025, 0, 0), 1, 0, 0);
+    EXPECT(coppicetune_block_at(5, 5, 3, 1), ACCEPTED, 1, 0);
+    EXPECT(coppicetune_block_at(5, 5, 2, 1), ACCEPTED, 0, 7);
+    EXPECT(coppicetune_block_at(5, 5, 4, 0), ACCEPTED, 1, 0);
+    EXPECT(coppicetune_block_at(5, 5, 4, 4), ACCEPTED, 0, 19);
+    EXPECT(coppicetune_block_at(8, 1024, 7, 1023), ACCEPTED, 0, 7167);
+    EXPECT(coppicetune_block_at(8, 1024, 0, 1023), ACCEPTED, 1, 0);
+    EXPECT(coppicetune_block_at(5, 5, 5, 0), RANGE, 0, 0);
+    EXPECT(coppicetune_block_at(5, 5, 0, 5), RANGE, 0, 0);
+    EXPECT(coppicetune_block_at(5, 5, UINT64_MAX, UINT64_MAX), RANGE, 0, 0);
+    EXPECT(coppicetune_block_at(2, 5, 0, 0), BEYOND, 0, 0);
+    EXPECT(coppicetune_block_at(5, 1025, 0, 0), BEYOND, 0, 0);
 }
 
 /* 3 cards, 2 stripes, blocks of 16 bytes, 1 record. */
 static void scan(void)
 {
     uint8_t image[96] = {0};
-    EXPECT(coppicetune_scan(3, 2, 16, 1, 255, 0, image, 96), 0, 0, 0);
+    EXPECT(coppicetune_scan(3, 2, 16, 1, COPPICETUNE_NONE, 0, image, 96), ACCEPTED, 0, 0);
     image[21] = 1; /* byte 5 of card 0's block of stripe 1 */
-    EXPECT(coppicetune_scan(3, 2, 16, 1, 255, 0, image, 96), 13, 1, 5);
+    EXPECT(coppicetune_scan(3, 2, 16, 1, COPPICETUNE_NONE, 0, image, 96), DISAGREES, 1, 5);
     image[32 + 15] = 0x80; /* byte 15 of card 1's block of stripe 0 */
-    EXPECT(coppicetune_scan(3, 2, 16, 1, 255, 0, image, 96), 13, 0, 15);
+    EXPECT(coppicetune_scan(3, 2, 16, 1, COPPICETUNE_NONE, 0, image, 96), DISAGREES, 0, 15);
     image[64 + 15] = 0x80; /* the same on card 2: that byte is right again */
-    EXPECT(coppicetune_scan(3, 2, 16, 1, 255, 0, image, 96), 13, 1, 5);
-    EXPECT(coppicetune_scan(3, 2, 16, 1, 2, 0, image, 96), 12, 0, 0);
-    EXPECT(coppicetune_scan(3, 2, 16, 1, 2, 1, image, 96), 4, 0, 0);
-    EXPECT(coppicetune_scan(3, 2, 16, 1, 2, 1, image, 95), 2, 0, 0);
-    EXPECT(coppicetune_scan(3, 2, 16, 1, 3, 1, image, 95), 1, 0, 0);
-    EXPECT(coppicetune_scan(3, 2, 24, 1, 255, 0, image, 96), 1, 0, 0);
-    EXPECT(coppicetune_scan(3, 2, 16, 1, 255, 0, image, 0), 2, 0, 0);
+    EXPECT(coppicetune_scan(3, 2, 16, 1, COPPICETUNE_NONE, 0, image, 96), DISAGREES, 1, 5);
+    EXPECT(coppicetune_scan(3, 2, 16, 1, 2, 0, image, 96), OUT, 0, 0);
+    EXPECT(coppicetune_scan(3, 2, 16, 1, 2, 1, image, 96), LOST, 0, 0);
+    EXPECT(coppicetune_scan(3, 2, 16, 1, 2, 1, image, 95), LENGTH, 0, 0);
+    EXPECT(coppicetune_scan(3, 2, 16, 1, 3, 1, image, 95), BEYOND, 0, 0);
+    EXPECT(coppicetune_scan(3, 2, 24, 1, COPPICETUNE_NONE, 0, image, 96), BEYOND, 0, 0);
+    EXPECT(coppicetune_scan(3, 2, 16, 1, COPPICETUNE_NONE, 0, image, 0), LENGTH, 0, 0);
+}
+
+/* The names stand for the paper's numbers. */
+static void names(void)
+{
+    static const int named[] = {COPPICETUNE_ACCEPTED, COPPICETUNE_BEYOND, COPPICETUNE_LENGTH,    COPPICETUNE_UNSOUND,
+                                COPPICETUNE_LOST,     COPPICETUNE_RANGE,  COPPICETUNE_MASK,      COPPICETUNE_BUFFER,
+                                COPPICETUNE_HELD,     COPPICETUNE_FULL,   COPPICETUNE_PHASE,     COPPICETUNE_NOT_READY,
+                                COPPICETUNE_OUT,      COPPICETUNE_DISAGREES};
+    for (int at = 0; at <= 13; at++) {
+        if (named[at] != at) {
+            printf("the name of refusal %d stands for %d\n", at, named[at]);
+            wrong++;
+        }
+    }
 }
 
 int main(void)
 {
+    names();
     place();
     block_at();
     scan();

@@ -8,18 +8,13 @@
 #include <stdlib.h>
 #include <string.h>
 
-enum { CARDS = 4, UNITS = 3, STRIPES = 4, BLOCK = 16, RECORDS = 2, NONE = 255 };
+enum { CARDS = 4, UNITS = 3, STRIPES = 4, BLOCK = 16, RECORDS = 2 };
 enum { IMAGE = CARDS * STRIPES * BLOCK, WORK = 2 * CARDS * BLOCK * RECORDS };
 
 static struct coppicetune_state state;
 static struct coppicetune_record table[RECORDS];
 static uint8_t work[WORK];
 static uint8_t image[IMAGE];
-
-/* The parts of an answer: a number, 0 if accepted, and two values. */
-static uint64_t number(uint64_t answer) { return answer & 0xFFFF; }
-static uint64_t first(uint64_t answer) { return answer >> 16 & 0xFFFF; }
-static uint64_t second(uint64_t answer) { return answer >> 32; }
 
 static void expect(int holds, const char *what)
 {
@@ -28,6 +23,16 @@ static void expect(int holds, const char *what)
         exit(1);
     }
 }
+
+/* The answer has this number and these values. */
+static int is(uint64_t answer, uint64_t number, uint64_t first, uint64_t second)
+{
+    return coppicetune_number(answer) == number && coppicetune_first(answer) == first &&
+           coppicetune_second(answer) == second;
+}
+
+/* The call was not refused. */
+static int accepted(uint64_t answer) { return coppicetune_number(answer) == COPPICETUNE_ACCEPTED; }
 
 /* Fills the block at a card and stripe. */
 static void fill(uint64_t card, uint64_t stripe, uint8_t byte)
@@ -52,8 +57,9 @@ static void prepare(void)
     for (uint64_t stripe = 0; stripe < STRIPES; stripe++) {
         for (uint64_t card = 0; card < CARDS; card++) {
             uint64_t there = coppicetune_block_at(CARDS, STRIPES, card, stripe);
-            expect(number(there) == 0, "a card and stripe hold a block or parity");
-            fill(card, stripe, first(there) == 1 ? 0x77 : unit[second(there) % UNITS]);
+            expect(accepted(there), "a card and stripe hold a block or parity");
+            int parity = coppicetune_first(there) == 1;
+            fill(card, stripe, parity ? 0x77 : unit[coppicetune_second(there) % UNITS]);
         }
     }
 }
@@ -62,20 +68,20 @@ static void prepare(void)
 static uint64_t card_of(uint64_t stripe, uint64_t unit)
 {
     uint64_t there = coppicetune_place(CARDS, STRIPES, stripe * UNITS + unit);
-    expect(number(there) == 0 && second(there) == stripe, "a block is on its stripe");
-    return first(there);
+    expect(is(there, COPPICETUNE_ACCEPTED, coppicetune_first(there), stripe), "a block is on its stripe");
+    return coppicetune_first(there);
 }
 
 static void open_array(void)
 {
     uint64_t answer = coppicetune_open(&state, table, RECORDS, work, WORK, image, IMAGE, CARDS,
-                                       STRIPES, BLOCK, RECORDS, NONE);
+                                       STRIPES, BLOCK, RECORDS, COPPICETUNE_NONE);
     expect(answer == 0, "the array opens");
     expect(state.cards == CARDS && state.stripes == STRIPES && state.block == BLOCK &&
-               state.records == RECORDS && state.out == NONE && state.lost == 0,
+               state.records == RECORDS && state.out == COPPICETUNE_NONE && state.lost == 0,
            "its state is as asked");
     for (int at = 0; at < RECORDS; at++)
-        expect(table[at].phase == 0, "every record is free");
+        expect(table[at].phase == COPPICETUNE_FREE, "every record is free");
 }
 
 static uint64_t admit(uint64_t write, uint64_t stripe, uint64_t mask, const uint8_t *payload,
@@ -99,11 +105,11 @@ static uint64_t collect(uint64_t record, uint8_t *result, size_t length)
 /* Takes whatever step is ready until the request is finished. */
 static void finish(uint64_t record)
 {
-    while (table[record].phase == 1) {
-        int accepted = 0;
-        for (uint64_t each = 0; each <= 2 * UNITS + 2 && !accepted; each++)
-            accepted = number(step(record, each)) == 0;
-        expect(accepted, "an open request has a step to take");
+    while (table[record].phase == COPPICETUNE_OPEN) {
+        int taken = 0;
+        for (uint64_t each = 0; each <= 2 * UNITS + 2 && !taken; each++)
+            taken = accepted(step(record, each));
+        expect(taken, "an open request has a step to take");
     }
 }
 
@@ -116,28 +122,28 @@ static void write_through_a_failure(void)
     uint64_t admitted = admit(1, STRIPE, 1 << 1, payload, BLOCK);
     expect(admitted == 0, "the write is admitted to record 0");
     expect(table[0].graph == 3, "as a small write");
-    expect(number(admit(0, STRIPE, 1, NULL, 0)) == 8, "its stripe is held");
+    expect(admit(0, STRIPE, 1, NULL, 0) == COPPICETUNE_HELD, "its stripe is held");
     expect(coppicetune_check(&state, table, RECORDS, image, IMAGE) == 0, "idle stripes are right");
     expect(step(0, READ_UNIT) == 0, "the unit is read");
-    expect(step(0, SUM) == 11, "the exclusive or waits for parity's read");
+    expect(step(0, SUM) == COPPICETUNE_NOT_READY, "the exclusive or waits for parity's read");
     expect(step(0, READ_PARITY) == 0, "parity is read");
     expect(step(0, SUM) == 0, "the exclusive or is done");
 
     uint64_t card = card_of(STRIPE, 1);
     expect(coppicetune_report(&state, card) == 0 && state.out == card, "the card is out");
-    expect(coppicetune_report(&state, card) == 12, "and is not reported twice");
+    expect(coppicetune_report(&state, card) == COPPICETUNE_OUT, "and is not reported twice");
     for (uint64_t stripe = 0; stripe < STRIPES; stripe++)
         fill(card, stripe, 0xDD);
 
     uint64_t afresh = step(0, WRITE);
-    expect(number(afresh) == 0 && first(afresh) == 4, "graph 4 is chosen afresh");
+    expect(is(afresh, COPPICETUNE_ACCEPTED, 4, 0), "graph 4 is chosen afresh");
     finish(0);
     uint64_t parity_card = 2;
     expect(filled(parity_card, STRIPE, 0x66), "parity is 66");
     expect(filled(card, STRIPE, 0xDD), "nothing is written to the card that is out");
     uint64_t collected = collect(0, NULL, 0);
-    expect(number(collected) == 0 && first(collected) == 3 + 1 + 4, "8 steps were accepted");
-    expect(table[0].phase == 0, "the record is free");
+    expect(is(collected, COPPICETUNE_ACCEPTED, 3 + 1 + 4, 0), "8 steps were accepted");
+    expect(table[0].phase == COPPICETUNE_FREE, "the record is free");
 }
 
 /* Reads every unit of every stripe; the dead card's are inferred. */
@@ -148,8 +154,8 @@ static void read_back(void)
         memset(result, 0xEE, sizeof result);
         expect(admit(0, stripe, (1 << UNITS) - 1, NULL, 0) == 0, "the read is admitted");
         finish(0);
-        expect(collect(0, result, UNITS * BLOCK - 1) == 7, "the buffer is too small");
-        expect(number(collect(0, result, sizeof result)) == 0, "the read is collected");
+        expect(collect(0, result, UNITS * BLOCK - 1) == COPPICETUNE_BUFFER, "the buffer is too small");
+        expect(accepted(collect(0, result, sizeof result)), "the read is collected");
         const uint8_t unit[UNITS] = {0x11, stripe == 1 ? 0x33 : 0x22, 0x44};
         for (int at = 0; at < UNITS * BLOCK; at++)
             expect(result[at] == unit[at / BLOCK], "each unit is read back");
@@ -168,21 +174,21 @@ int main(void)
 {
     prepare();
     image[IMAGE - 1] ^= 1;
-    state.cards = CARDS;
+    state.cards = 9;
     uint64_t refused = coppicetune_open(&state, table, RECORDS, work, WORK, image, IMAGE, CARDS,
-                                        STRIPES, BLOCK, RECORDS, NONE);
-    expect(number(refused) == 13 && first(refused) == STRIPES - 1 && second(refused) == BLOCK - 1,
-           "a wrong byte is found");
-    expect(state.cards == 0, "a refused opening gives a state of zeros");
+                                        STRIPES, BLOCK, RECORDS, COPPICETUNE_NONE);
+    expect(is(refused, COPPICETUNE_DISAGREES, STRIPES - 1, BLOCK - 1), "a wrong byte is found");
+    expect(state.cards == 9, "a refused opening leaves the state as it was");
     image[IMAGE - 1] ^= 1;
 
     open_array();
     expect(scan() == 0, "parity is right");
     write_through_a_failure();
     read_back();
-    expect(scan() == 12, "a scan needs every card");
+    expect(scan() == COPPICETUNE_OUT, "a scan needs every card");
     expect(coppicetune_report(&state, (state.out + 1) % CARDS) == 0, "a second card is reported");
-    expect(state.lost == 1 && admit(0, 0, 1, NULL, 0) == 4 && scan() == 4, "the array is lost");
+    expect(state.lost == 1 && scan() == COPPICETUNE_LOST, "the array is lost");
+    expect(admit(0, 0, 1, NULL, 0) == COPPICETUNE_LOST, "and takes no request");
     puts("engine.c: all as it should be");
     return 0;
 }

@@ -18,7 +18,7 @@ void both_begin(void)
         room_make(rooms[at]);
 }
 
-int accepted(uint64_t answer) { return (answer & 0xFFFF) == 0; }
+int accepted(uint64_t answer) { return coppicetune_number(answer) == COPPICETUNE_ACCEPTED; }
 
 static void stop(const char *what, const struct ask *ask, uint64_t tested, uint64_t plain)
 {
@@ -27,37 +27,6 @@ static void stop(const char *what, const struct ask *ask, uint64_t tested, uint6
             (unsigned long long)ask->number[1], (unsigned long long)ask->number[2],
             (unsigned long long)ask->number[3], (unsigned long long)ask->number[4],
             (unsigned long long)tested, (unsigned long long)plain);
-    abort();
-}
-
-static uint64_t make_plain(const struct ask *ask, struct side *s)
-{
-    const uint64_t *n = ask->number;
-    switch (ask->call) {
-    case PLACE:
-        return plain_place(n[0], n[1], n[2]);
-    case BLOCK_AT:
-        return plain_block_at(n[0], n[1], n[2], n[3]);
-    case SCAN:
-        return plain_scan(s->state.cards, s->state.stripes, s->state.block, s->state.records,
-                          s->state.out, s->state.lost, s->image, s->image_len);
-    case OPEN:
-        return plain_open(&s->state, s->table, s->table_len, s->work, s->work_len, s->image,
-                          s->image_len, n[0], n[1], n[2], n[3], n[4]);
-    case ADMIT:
-        return plain_admit(&s->state, s->table, s->table_len, s->work, s->work_len, s->image,
-                           s->image_len, n[0], n[1], n[2], s->payload, s->payload_len);
-    case STEP:
-        return plain_step(&s->state, s->table, s->table_len, s->work, s->work_len, s->image,
-                          s->image_len, n[0], n[1]);
-    case REPORT:
-        return plain_report(&s->state, n[0]);
-    case COLLECT:
-        return plain_collect(&s->state, s->table, s->table_len, s->work, s->work_len, n[0],
-                             s->result, s->result_len);
-    case CHECK:
-        return plain_check(&s->state, s->table, s->table_len, s->image, s->image_len);
-    }
     abort();
 }
 
@@ -115,10 +84,10 @@ static uint64_t make_tested(const struct ask *ask, struct side *s, int at_end)
     return answer;
 }
 
-/* The used parts of two sides are equal, but for the state if `states` is 0. */
-static int same(const struct side *a, const struct side *b, int states)
+/* The used parts of two sides are equal. */
+static int same(const struct side *a, const struct side *b)
 {
-    return (!states || memcmp(&a->state, &b->state, sizeof a->state) == 0) &&
+    return memcmp(&a->state, &b->state, sizeof a->state) == 0 &&
            memcmp(a->table, b->table, a->table_len * sizeof *a->table) == 0 &&
            memcmp(a->work, b->work, a->work_len) == 0 &&
            memcmp(a->image, b->image, a->image_len) == 0 &&
@@ -144,9 +113,9 @@ uint64_t make(const struct ask *ask, int at_end)
     uint64_t tested = make_tested(ask, &theirs, at_end);
     if (tested != plain)
         stop("answers differ", ask, tested, plain);
-    if (!same(&theirs, &ours, 1))
+    if (!same(&theirs, &ours))
         stop("what was lent differs", ask, tested, plain);
-    if (!accepted(tested) && !same(&theirs, &before, ask->call != OPEN))
+    if (!accepted(tested) && !same(&theirs, &before))
         stop("a refusal altered something", ask, tested, plain);
     return tested;
 }

@@ -2,11 +2,15 @@
 #ifndef BOTH_H
 #define BOTH_H
 
-#include "plain.h"
+#include <coppicetune.h>
+#include <stddef.h>
+
+typedef struct coppicetune_state state_t;
+typedef struct coppicetune_record record_t;
 
 enum { MOST_RECORDS = 16, MOST_BYTES = 1 << 17, MOST_PAYLOAD = 8192 };
 
-/* All that a caller lends. */
+/* All that a caller lends; plain/src/lib.rs has the same. */
 struct side {
     state_t state;
     record_t table[MOST_RECORDS];
@@ -21,6 +25,7 @@ struct side {
     uint8_t result[MOST_PAYLOAD];
 };
 
+/* The calls, from 0 on; plain/src/lib.rs goes by these numbers. */
 enum call { PLACE, BLOCK_AT, SCAN, OPEN, ADMIT, STEP, REPORT, COLLECT, CHECK };
 
 /* A call and its numbers, in the order of its arguments. */
@@ -28,6 +33,9 @@ struct ask {
     enum call call;
     uint64_t number[5];
 };
+
+/* Makes a call of the plain engine. */
+uint64_t make_plain(const struct ask *ask, struct side *side);
 
 /* What the library and the plain engine are lent; equal between calls. */
 extern struct side theirs, ours;

@@ -1,6 +1,6 @@
-//! Runs a proved program of the repository, as `rt check` leaves it.
+//! Runs programs for x86-64: a proved program of the repository, as `rt check` leaves it, or one that a test compiled.
 use std::io::{ErrorKind, Write};
-use std::path::PathBuf;
+use std::path::{Path, PathBuf};
 use std::process::{Command, Stdio};
 use std::time::Duration;
 
@@ -10,9 +10,21 @@ fn path(name: &str) -> PathBuf {
     program
 }
 
+/// Starts a program: by itself, or by the command that the environment names as `RUNNER`, an emulator where this machine is no x86-64.
+pub fn command(program: &Path) -> Command {
+    match std::env::var_os("RUNNER") {
+        None => Command::new(program),
+        Some(runner) => {
+            let mut command = Command::new(runner);
+            command.arg(program);
+            command
+        }
+    }
+}
+
 /// What the program writes when it is handed the input in these pieces, one at a time.
 pub fn output_of_pieces(name: &str, pieces: &[&[u8]]) -> Vec<u8> {
-    let mut child = Command::new(path(name))
+    let mut child = command(&path(name))
         .stdin(Stdio::piped())
         .stdout(Stdio::piped())
         .stderr(Stdio::piped())

@@ -1,5 +1,5 @@
 //! The library, through the functions of include/coppicetune.h; this is the one file that knows their arguments.
-use crate::calls::{Answer, Calls, Record, State};
+use crate::calls::{Calls, Lent, Record, State};
 
 extern "C" {
     fn coppicetune_place(cards: u64, stripes: u64, block: u64) -> u64;
@@ -18,7 +18,7 @@ extern "C" {
         state: *mut State,
         table: *mut Record,
         table_len: usize,
-        work: *mut u8,
+        work: *const u8,
         work_len: usize,
         image: *const u8,
         image_len: usize,
@@ -73,27 +73,10 @@ extern "C" {
     ) -> u64;
 }
 
-pub fn place(cards: u64, stripes: u64, block: u64) -> Answer {
-    // Safe: the function takes any numbers and touches no memory of the caller's.
-    Answer::of(unsafe { coppicetune_place(cards, stripes, block) })
-}
-
-pub fn block_at(cards: u64, stripes: u64, card: u64, stripe: u64) -> Answer {
-    // Safe: as above.
-    Answer::of(unsafe { coppicetune_block_at(cards, stripes, card, stripe) })
-}
-
-pub fn scan(state: &State, image: &[u8]) -> Answer {
-    let State { cards, stripes, block, records, out, lost } = *state;
-    let (at, len) = (image.as_ptr(), image.len());
-    // Safe: the image is lent whole, for the time of the call.
-    Answer::of(unsafe { coppicetune_scan(cards, stripes, block, records, out, lost, at, len) })
-}
-
 /// All calls of the library.
 pub struct Library;
 
-// Each call below lends whole slices for its own time only, and the structs have C's layout.
+// Safe: each call takes any numbers, lends whole slices for its own time only, and the structs have C's layout.
 impl Calls for Library {
     fn place(&self, cards: u64, stripes: u64, block: u64) -> u64 {
         unsafe { coppicetune_place(cards, stripes, block) }
@@ -109,56 +92,35 @@ impl Calls for Library {
         unsafe { coppicetune_scan(cards, stripes, block, records, out, lost, at, len) }
     }
 
-    fn open(
-        &self,
-        state: &mut State,
-        table: &mut [Record],
-        work: &mut [u8],
-        image: &[u8],
-        cards: u64,
-        stripes: u64,
-        block: u64,
-        records: u64,
-        out: u64,
-    ) -> u64 {
+    fn open(&self, lent: &mut Lent, asked: &State) -> u64 {
         unsafe {
             coppicetune_open(
-                state,
-                table.as_mut_ptr(),
-                table.len(),
-                work.as_mut_ptr(),
-                work.len(),
-                image.as_ptr(),
-                image.len(),
-                cards,
-                stripes,
-                block,
-                records,
-                out,
+                lent.state,
+                lent.table.as_mut_ptr(),
+                lent.table.len(),
+                lent.work.as_ptr(),
+                lent.work.len(),
+                lent.image.as_ptr(),
+                lent.image.len(),
+                asked.cards,
+                asked.stripes,
+                asked.block,
+                asked.records,
+                asked.out,
             )
         }
     }
 
-    fn admit(
-        &self,
-        state: &State,
-        table: &mut [Record],
-        work: &mut [u8],
-        image: &[u8],
-        write: u64,
-        stripe: u64,
-        mask: u64,
-        payload: &[u8],
-    ) -> u64 {
+    fn admit(&self, lent: &mut Lent, write: u64, stripe: u64, mask: u64, payload: &[u8]) -> u64 {
         unsafe {
             coppicetune_admit(
-                state,
-                table.as_mut_ptr(),
-                table.len(),
-                work.as_mut_ptr(),
-                work.len(),
-                image.as_ptr(),
-                image.len(),
+                lent.state,
+                lent.table.as_mut_ptr(),
+                lent.table.len(),
+                lent.work.as_mut_ptr(),
+                lent.work.len(),
+                lent.image.as_ptr(),
+                lent.image.len(),
                 write,
                 stripe,
                 mask,
@@ -168,24 +130,16 @@ impl Calls for Library {
         }
     }
 
-    fn step(
-        &self,
-        state: &State,
-        table: &mut [Record],
-        work: &mut [u8],
-        image: &mut [u8],
-        record: u64,
-        step: u64,
-    ) -> u64 {
+    fn step(&self, lent: &mut Lent, record: u64, step: u64) -> u64 {
         unsafe {
             coppicetune_step(
-                state,
-                table.as_mut_ptr(),
-                table.len(),
-                work.as_mut_ptr(),
-                work.len(),
-                image.as_mut_ptr(),
-                image.len(),
+                lent.state,
+                lent.table.as_mut_ptr(),
+                lent.table.len(),
+                lent.work.as_mut_ptr(),
+                lent.work.len(),
+                lent.image.as_mut_ptr(),
+                lent.image.len(),
                 record,
                 step,
             )
@@ -196,21 +150,14 @@ impl Calls for Library {
         unsafe { coppicetune_report(state, card) }
     }
 
-    fn collect(
-        &self,
-        state: &State,
-        table: &mut [Record],
-        work: &[u8],
-        record: u64,
-        result: &mut [u8],
-    ) -> u64 {
+    fn collect(&self, lent: &mut Lent, record: u64, result: &mut [u8]) -> u64 {
         unsafe {
             coppicetune_collect(
-                state,
-                table.as_mut_ptr(),
-                table.len(),
-                work.as_ptr(),
-                work.len(),
+                lent.state,
+                lent.table.as_mut_ptr(),
+                lent.table.len(),
+                lent.work.as_ptr(),
+                lent.work.len(),
                 record,
                 result.as_mut_ptr(),
                 result.len(),

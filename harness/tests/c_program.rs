@@ -1,23 +1,33 @@
 //! C programs, compiled against the header, call each function.
+use harness::program::command;
 use std::path::Path;
 use std::process::Command;
 
-/// Compiles a program of harness/c and runs it; it ends with 0 if all is as it should be.
-fn run(name: &str) {
+/// Compiles a program against the header, by gcc or by the compiler that the environment names as `CC`, and runs it; what it writes. It ends
+/// with 0 if all is as it should be.
+fn output(source: &Path) -> String {
     let home = Path::new(env!("CARGO_MANIFEST_DIR"));
-    let program = Path::new(env!("CARGO_TARGET_TMPDIR")).join(name);
-    let compiled = Command::new("gcc")
+    let program = Path::new(env!("CARGO_TARGET_TMPDIR")).join(source.file_stem().unwrap());
+    let compiler = std::env::var("CC").unwrap_or_else(|_| "gcc".to_string());
+    let compiled = Command::new(&compiler)
         .args(["-std=c11", "-Wall", "-Wextra", "-Wpedantic", "-Werror", "-O1", "-I"])
         .arg(home.join("../include"))
-        .arg(home.join("c").join(name).with_extension("c"))
+        .arg(source)
         .arg(home.join("../target/staticlib/librecorder.a"))
         .arg("-o")
         .arg(&program)
         .output()
-        .expect("gcc starts");
+        .unwrap_or_else(|error| panic!("{compiler}: {error}"));
     assert!(compiled.status.success(), "{}", String::from_utf8_lossy(&compiled.stderr));
-    let ran = Command::new(&program).output().expect("the program starts");
-    assert!(ran.status.success(), "{}", String::from_utf8_lossy(&ran.stdout));
+    let ran = command(&program).output().expect("the program starts");
+    let written = String::from_utf8(ran.stdout).expect("it writes text");
+    assert!(ran.status.success(), "{written}");
+    written
+}
+
+/// Compiles and runs a program of harness/c.
+fn run(name: &str) {
+    output(&Path::new(env!("CARGO_MANIFEST_DIR")).join("c").join(name).with_extension("c"));
 }
 
 #[test]
@@ -28,4 +38,16 @@ fn a_c_program_calls_each_function() {
 #[test]
 fn a_c_program_writes_through_a_failure() {
     run("engine");
+}
+
+/// The example of README.md is what stands there between the marks of a C text.
+#[test]
+fn the_example_of_the_readme() {
+    let home = Path::new(env!("CARGO_MANIFEST_DIR"));
+    let readme = std::fs::read_to_string(home.join("../README.md")).expect("README.md is there");
+    let (_, from) = readme.split_once("```c\n").expect("it has an example in C");
+    let (example, _) = from.split_once("```").expect("the example ends");
+    let source = Path::new(env!("CARGO_TARGET_TMPDIR")).join("example.c");
+    std::fs::write(&source, example).expect("the example is written");
+    assert_eq!(output(&source), "as sent\n");
 }

@@ -1,12 +1,21 @@
 //! Placement, both ways, against the independent implementation.
-use harness::calls::{Answer, Calls, Plain};
+use harness::calls::{Answer, Calls, Plain, Tested};
 use harness::numbers::wild;
 use harness::random::Random;
-use harness::recorder;
+
+/// Where the library says that a block is.
+fn place(cards: u64, stripes: u64, block: u64) -> Answer {
+    Answer::of(Tested.place(cards, stripes, block))
+}
+
+/// What the library says that a card holds in a stripe.
+fn block_at(cards: u64, stripes: u64, card: u64, stripe: u64) -> Answer {
+    Answer::of(Tested.block_at(cards, stripes, card, stripe))
+}
 
 fn same_place(cards: u64, stripes: u64, block: u64) {
     assert_eq!(
-        recorder::place(cards, stripes, block),
+        place(cards, stripes, block),
         Answer::of(Plain.place(cards, stripes, block)),
         "place({cards}, {stripes}, {block})"
     );
@@ -14,7 +23,7 @@ fn same_place(cards: u64, stripes: u64, block: u64) {
 
 fn same_block_at(cards: u64, stripes: u64, card: u64, stripe: u64) {
     assert_eq!(
-        recorder::block_at(cards, stripes, card, stripe),
+        block_at(cards, stripes, card, stripe),
         Answer::of(Plain.block_at(cards, stripes, card, stripe)),
         "block_at({cards}, {stripes}, {card}, {stripe})"
     );
@@ -34,15 +43,15 @@ fn whole_array(cards: u64, stripes: u64) {
 
 #[test]
 fn examples_of_the_paper() {
-    assert_eq!(recorder::place(5, 5, 0), Answer::accepted(0, 0));
-    assert_eq!(recorder::place(5, 5, 7), Answer::accepted(2, 1));
-    assert_eq!(recorder::place(5, 5, 10), Answer::accepted(0, 2));
-    assert_eq!(recorder::block_at(5, 5, 3, 1), Answer::accepted(1, 0));
-    assert_eq!(recorder::place(5, 5, 19), Answer::accepted(4, 4));
-    assert_eq!(recorder::place(5, 5, 20), Answer::refused(5));
+    assert_eq!(place(5, 5, 0), Answer::accepted(0, 0));
+    assert_eq!(place(5, 5, 7), Answer::accepted(2, 1));
+    assert_eq!(place(5, 5, 10), Answer::accepted(0, 2));
+    assert_eq!(block_at(5, 5, 3, 1), Answer::accepted(1, 0));
+    assert_eq!(place(5, 5, 19), Answer::accepted(4, 4));
+    assert_eq!(place(5, 5, 20), Answer::refused(5));
     for (cards, stripes) in [(2, 5), (9, 5), (5, 0), (5, 1025)] {
-        assert_eq!(recorder::place(cards, stripes, 0), Answer::refused(1));
-        assert_eq!(recorder::block_at(cards, stripes, 0, 0), Answer::refused(1));
+        assert_eq!(place(cards, stripes, 0), Answer::refused(1));
+        assert_eq!(block_at(cards, stripes, 0, 0), Answer::refused(1));
     }
 }
 
@@ -96,9 +105,9 @@ fn each_way_is_the_other_s_inverse() {
     for cards in 3..=8 {
         for stripes in [1, 2, 3, 63, 64, 1024] {
             for block in 0..(cards - 1) * stripes {
-                let at = recorder::place(cards, stripes, block);
+                let at = place(cards, stripes, block);
                 assert_eq!(
-                    recorder::block_at(cards, stripes, at.first, at.second),
+                    block_at(cards, stripes, at.first, at.second),
                     Answer::accepted(0, block)
                 );
             }

@@ -1,9 +1,8 @@
 //! The scan of an idle array against the independent implementation: the whole answer, on every image and state below.
-use harness::calls::{Answer, Calls, Plain, State};
+use harness::calls::{Answer, Calls, Plain, State, Tested};
 use harness::numbers::wild;
 use harness::plain::blocks::{make_right, on_card};
 use harness::random::Random;
-use harness::recorder;
 use std::collections::BTreeSet;
 
 /// Where a byte of a card's block stands.
@@ -12,7 +11,7 @@ fn at(state: &State, card: usize, stripe: usize, byte: usize) -> usize {
 }
 
 fn same(state: &State, image: &[u8]) -> Answer {
-    let reply = recorder::scan(state, image);
+    let reply = Answer::of(Tested.scan(state, image));
     assert_eq!(
         reply,
         Answer::of(Plain.scan(state, image)),

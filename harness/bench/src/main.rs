@@ -1,8 +1,7 @@
 //! How long the library's scan takes beside ISA-L's `xor_check`, a plain C loop and the independent Rust scan: same buffers, same run.
 //! It decides nothing: it prints a table, which docs/PERFORMANCE.md keeps.
-use harness::calls::{Calls, Plain, State};
+use harness::calls::{Calls, Plain, State, Tested};
 use harness::plain::blocks::{make_right, on_card};
-use harness::recorder;
 use std::ffi::{c_char, c_int, c_void};
 use std::hint::black_box;
 use std::time::Instant;
@@ -83,7 +82,7 @@ fn row(state: &State, check: Option<XorCheck>) {
     fill(state, &mut bytes[start..start + len]);
     let image = &bytes[start..start + len];
 
-    let library = || recorder::scan(state, black_box(image)).number == 0;
+    let library = || Tested.scan(state, black_box(image)) == 0;
     let checked = || check.is_some_and(|check| scan_by(check, state, black_box(image)));
     let plain = || unsafe { plain_scan(cards, stripes, block, black_box(image).as_ptr()) == 0 };
     let rust = || Plain.scan(state, black_box(image)) == 0;

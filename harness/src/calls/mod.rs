@@ -12,53 +12,32 @@ pub use plain::Plain;
 /// The engine under test.
 pub use crate::recorder::Library as Tested;
 
+/// What a caller lends to the calls of the engine. A call takes of it what its C function takes.
+pub struct Lent<'a> {
+    pub state: &'a mut State,
+    pub table: &'a mut [Record],
+    pub work: &'a mut [u8],
+    pub image: &'a mut [u8],
+}
+
+impl Lent<'_> {
+    /// The same once more, for a while.
+    pub fn again(&mut self) -> Lent<'_> {
+        Lent { state: self.state, table: self.table, work: self.work, image: self.image }
+    }
+}
+
 /// An engine behind the C interface. Slices stand for a pointer and a length.
-#[allow(clippy::too_many_arguments)]
 pub trait Calls {
     fn place(&self, cards: u64, stripes: u64, block: u64) -> u64;
     fn block_at(&self, cards: u64, stripes: u64, card: u64, stripe: u64) -> u64;
     fn scan(&self, state: &State, image: &[u8]) -> u64;
-    fn open(
-        &self,
-        state: &mut State,
-        table: &mut [Record],
-        work: &mut [u8],
-        image: &[u8],
-        cards: u64,
-        stripes: u64,
-        block: u64,
-        records: u64,
-        out: u64,
-    ) -> u64;
-    fn admit(
-        &self,
-        state: &State,
-        table: &mut [Record],
-        work: &mut [u8],
-        image: &[u8],
-        write: u64,
-        stripe: u64,
-        mask: u64,
-        payload: &[u8],
-    ) -> u64;
-    fn step(
-        &self,
-        state: &State,
-        table: &mut [Record],
-        work: &mut [u8],
-        image: &mut [u8],
-        record: u64,
-        step: u64,
-    ) -> u64;
+    /// Opens an array of the numbers that are asked for; a lost mark among them plays no part.
+    fn open(&self, lent: &mut Lent, asked: &State) -> u64;
+    fn admit(&self, lent: &mut Lent, write: u64, stripe: u64, mask: u64, payload: &[u8]) -> u64;
+    fn step(&self, lent: &mut Lent, record: u64, step: u64) -> u64;
     fn report(&self, state: &mut State, card: u64) -> u64;
-    fn collect(
-        &self,
-        state: &State,
-        table: &mut [Record],
-        work: &[u8],
-        record: u64,
-        result: &mut [u8],
-    ) -> u64;
+    fn collect(&self, lent: &mut Lent, record: u64, result: &mut [u8]) -> u64;
     fn check(&self, state: &State, table: &[Record], image: &[u8]) -> u64;
 }
 

@@ -1,6 +1,6 @@
 //! The plain engine behind the C interface.
 
-use super::{pack, Calls, Record, State};
+use super::{pack, Calls, Lent, Record, State};
 use crate::plain::{self, Progress, Refusal, Role};
 
 pub struct Plain;
@@ -33,47 +33,22 @@ impl Calls for Plain {
         answer(plain::idle_scan(state, image), |()| (0, 0))
     }
 
-    fn open(
-        &self,
-        state: &mut State,
-        table: &mut [Record],
-        work: &mut [u8],
-        image: &[u8],
-        cards: u64,
-        stripes: u64,
-        block: u64,
-        records: u64,
-        out: u64,
-    ) -> u64 {
-        let opened = plain::open(cards, stripes, block, records, out, table, work, image);
-        *state = opened.unwrap_or_default();
+    fn open(&self, lent: &mut Lent, asked: &State) -> u64 {
+        let opened = plain::open(asked, lent.table, lent.work, lent.image);
+        if let Ok(state) = opened {
+            *lent.state = state;
+        }
         answer(opened, |_| (0, 0))
     }
 
-    fn admit(
-        &self,
-        state: &State,
-        table: &mut [Record],
-        work: &mut [u8],
-        image: &[u8],
-        write: u64,
-        stripe: u64,
-        mask: u64,
-        payload: &[u8],
-    ) -> u64 {
+    fn admit(&self, lent: &mut Lent, write: u64, stripe: u64, mask: u64, payload: &[u8]) -> u64 {
+        let Lent { state, table, work, image } = lent.again();
         let admitted = plain::admit(state, table, work, image, write != 0, stripe, mask, payload);
         answer(admitted, |record| (record, 0))
     }
 
-    fn step(
-        &self,
-        state: &State,
-        table: &mut [Record],
-        work: &mut [u8],
-        image: &mut [u8],
-        record: u64,
-        step: u64,
-    ) -> u64 {
+    fn step(&self, lent: &mut Lent, record: u64, step: u64) -> u64 {
+        let Lent { state, table, work, image } = lent.again();
         answer(plain::step(state, table, work, image, record, step), |progress| match progress {
             Progress::Done => (0, 0),
             Progress::Afresh(graph) => (graph, 0),
@@ -84,15 +59,9 @@ impl Calls for Plain {
         answer(plain::report(state, card), |()| (0, 0))
     }
 
-    fn collect(
-        &self,
-        state: &State,
-        table: &mut [Record],
-        work: &[u8],
-        record: u64,
-        result: &mut [u8],
-    ) -> u64 {
-        answer(plain::collect(state, table, work, record, result), |count| (count, 0))
+    fn collect(&self, lent: &mut Lent, record: u64, result: &mut [u8]) -> u64 {
+        let collected = plain::collect(lent.state, lent.table, lent.work, record, result);
+        answer(collected, |count| (count, 0))
     }
 
     fn check(&self, state: &State, table: &[Record], image: &[u8]) -> u64 {

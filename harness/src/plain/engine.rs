@@ -17,25 +17,20 @@ pub enum Progress {
     Afresh(u64),
 }
 
-/// Opens an array: the state that it starts in. Every record is freed.
-#[allow(clippy::too_many_arguments)]
+/// Opens an array of the numbers that are asked for: the state that it starts in, not lost. Every record is freed.
 pub fn open(
-    cards: u64,
-    stripes: u64,
-    block: u64,
-    records: u64,
-    out: u64,
+    asked: &State,
     table: &mut [Record],
     work: &[u8],
     image: &[u8],
 ) -> Result<State, Refusal> {
-    let state = State { cards, stripes, block, records, out, lost: 0 };
+    let state = State { lost: 0, ..*asked };
     demand(state.within_limits(), Refusal::Limits)?;
     demand(
         image_fits(&state, image) && table_fits(&state, table) && work_fits(&state, work),
         Refusal::Length,
     )?;
-    if out == NONE {
+    if state.out == NONE {
         parity_is_right(&state, &[], image)?;
     }
     table.fill(Record::default());

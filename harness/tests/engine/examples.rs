@@ -1,6 +1,6 @@
 //! The checked examples of document 01, starred ones too, by the calls.
 
-use crate::pair::Call;
+use crate::pair::{Call, Side};
 use crate::scene::Scene;
 use crate::tested;
 use harness::calls::{Answer, Calls, Record, State};
@@ -88,11 +88,10 @@ fn graphs_are_chosen_as_the_paper_says() {
 fn limits() {
     let calls = tested();
     let opened = |cards, stripes, block| {
-        let mut state = State::default();
-        let mut table = [Record::default()];
-        let answer =
-            calls.open(&mut state, &mut table, &mut [], &[], cards, stripes, block, 1, 255);
-        assert_eq!(state, State::default());
+        let before = State::whole(4, 4, 32);
+        let mut side = Side { state: before, table: vec![Record::default()], ..Side::default() };
+        let answer = calls.open(&mut side.lent(), &State::whole(cards, stripes, block));
+        assert_eq!(side.state, before);
         answer
     };
     assert_eq!(opened(2, 5, 16), 1);

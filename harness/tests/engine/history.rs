@@ -1,17 +1,24 @@
-//! Random histories, thousands of them, each from its own seed.
+//! Random histories, thousands of them, each from its own seed. The environment may name another number of them, as `HISTORIES`.
 
 use crate::story::tell;
 use crate::tally::Tally;
 use crate::tested;
 
-const STORIES: u64 = 6_000;
+/// How many histories.
+fn stories() -> u64 {
+    match std::env::var("HISTORIES") {
+        Ok(number) => number.parse().expect("HISTORIES is a number"),
+        Err(_) => 6_000,
+    }
+}
 
 #[test]
 fn random_histories() {
+    let stories = stories();
     // Two at a time: each half of the seeds has a thread of its own.
     let half = |odd: u64| {
         let mut tally = Tally::default();
-        for seed in (0..STORIES).filter(|seed| seed % 2 == odd) {
+        for seed in (0..stories).filter(|seed| seed % 2 == odd) {
             match tell(&tested(), seed, false) {
                 Ok(met) => tally.add(&met),
                 Err(what) => panic!("{what}"),

@@ -4,7 +4,7 @@
 //! those that document 01 names do not either when they are held to the caller's knowledge alone.
 
 use crate::story::tell;
-use harness::calls::{Answer, Calls, Plain, Record, State};
+use harness::calls::{Answer, Calls, Lent, Plain, Record, State};
 use std::cell::Cell;
 
 #[derive(Clone, Copy, PartialEq, Eq, Debug)]
@@ -74,49 +74,27 @@ impl Calls for Impostor {
         self.fixed().unwrap_or_else(|| Plain.scan(state, image))
     }
 
-    fn open(
-        &self,
-        state: &mut State,
-        table: &mut [Record],
-        work: &mut [u8],
-        image: &[u8],
-        cards: u64,
-        stripes: u64,
-        block: u64,
-        records: u64,
-        out: u64,
-    ) -> u64 {
-        self.fixed().unwrap_or_else(|| {
-            Plain.open(state, table, work, image, cards, stripes, block, records, out)
-        })
+    fn open(&self, lent: &mut Lent, asked: &State) -> u64 {
+        self.fixed().unwrap_or_else(|| Plain.open(lent, asked))
     }
 
-    fn admit(
-        &self,
-        state: &State,
-        table: &mut [Record],
-        work: &mut [u8],
-        image: &[u8],
-        write: u64,
-        stripe: u64,
-        mask: u64,
-        payload: &[u8],
-    ) -> u64 {
+    fn admit(&self, lent: &mut Lent, write: u64, stripe: u64, mask: u64, payload: &[u8]) -> u64 {
         if let Some(fixed) = self.fixed() {
             return fixed;
         }
-        let mut answer = Plain.admit(state, table, work, image, write, stripe, mask, payload);
+        let mut answer = Plain.admit(lent, write, stripe, mask, payload);
         if self.bend == Bend::SharesStripes && answer == 8 {
-            let mut others = let_go(table, stripe);
-            answer = Plain.admit(state, &mut others, work, image, write, stripe, mask, payload);
+            let mut others = let_go(lent.table, stripe);
+            let mut shared = Lent { table: &mut others, ..lent.again() };
+            answer = Plain.admit(&mut shared, write, stripe, mask, payload);
             let taken = Answer::of(answer);
             if taken.number == 0 {
-                table[taken.first as usize] = others[taken.first as usize];
+                lent.table[taken.first as usize] = others[taken.first as usize];
             }
         }
         if self.bend == Bend::CopiesEarly && answer == 9 {
-            let front = payload.len().min(work.len());
-            work[..front].copy_from_slice(&payload[..front]);
+            let front = payload.len().min(lent.work.len());
+            lent.work[..front].copy_from_slice(&payload[..front]);
         }
         if Answer::of(answer).number == 0 {
             self.admitted.set(self.admitted.get() + 1);
@@ -124,15 +102,7 @@ impl Calls for Impostor {
         answer
     }
 
-    fn step(
-        &self,
-        state: &State,
-        table: &mut [Record],
-        work: &mut [u8],
-        image: &mut [u8],
-        record: u64,
-        step: u64,
-    ) -> u64 {
+    fn step(&self, lent: &mut Lent, record: u64, step: u64) -> u64 {
         if let Some(fixed) = self.fixed() {
             return fixed;
         }
@@ -142,40 +112,35 @@ impl Calls for Impostor {
             _ => false,
         };
         if pretends {
-            return Plain.step(state, table, work, &mut image.to_vec(), record, step);
+            let mut image = lent.image.to_vec();
+            return Plain.step(&mut Lent { image: &mut image, ..lent.again() }, record, step);
         }
-        if self.bend == Bend::TrustsTheDead && state.out != 255 {
-            let healthy = State { out: 255, ..*state };
-            let answer = Plain.step(&healthy, table, work, image, record, step);
+        if self.bend == Bend::TrustsTheDead && lent.state.out != 255 {
+            let mut healthy = State { out: 255, ..*lent.state };
+            let mut trusting = Lent { state: &mut healthy, ..lent.again() };
+            let answer = Plain.step(&mut trusting, record, step);
             if Answer::of(answer).number == 0 {
                 return answer;
             }
         }
-        Plain.step(state, table, work, image, record, step)
+        Plain.step(lent, record, step)
     }
 
     fn report(&self, state: &mut State, card: u64) -> u64 {
         self.fixed().unwrap_or_else(|| Plain.report(state, card))
     }
 
-    fn collect(
-        &self,
-        state: &State,
-        table: &mut [Record],
-        work: &[u8],
-        record: u64,
-        result: &mut [u8],
-    ) -> u64 {
+    fn collect(&self, lent: &mut Lent, record: u64, result: &mut [u8]) -> u64 {
         if let Some(fixed) = self.fixed() {
             return fixed;
         }
-        let request = table.get(record as usize).copied();
-        let answer = Plain.collect(state, table, work, record, result);
+        let request = lent.table.get(record as usize).copied();
+        let answer = Plain.collect(lent, record, result);
         let Answer { number, first: count, .. } = Answer::of(answer);
         if number == 0 && self.bend == Bend::ClearsRest {
             let units =
                 request.filter(|request| request.write == 0).map_or(0, |request| request.ones());
-            result[(units * state.block) as usize..].fill(0);
+            result[(units * lent.state.block) as usize..].fill(0);
         }
         if number == 0 && self.bend == Bend::InventsCount {
             return (count.max(2) - 1) << 16;

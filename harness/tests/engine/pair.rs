@@ -1,6 +1,6 @@
 //! Two engines on the same input, compared after every call.
 
-use harness::calls::{Answer, Calls, Plain, Record, State};
+use harness::calls::{Answer, Calls, Lent, Plain, Record, State};
 
 /// Everything that a caller lends.
 #[derive(Clone, PartialEq, Eq, Debug, Default)]
@@ -20,6 +20,12 @@ impl Side {
             work: vec![0; state.work_length() as usize],
             image: vec![0; state.image_length() as usize],
         }
+    }
+
+    /// All of it, lent.
+    pub fn lent(&mut self) -> Lent<'_> {
+        let Side { state, table, work, image } = self;
+        Lent { state, table, work, image }
     }
 
     /// The bytes that a card holds in the image.
@@ -61,23 +67,23 @@ impl Call {
 
     /// Makes the call.
     pub fn make(&self, calls: &dyn Calls, side: &mut Side, result: &mut [u8]) -> Answer {
-        let Side { state, table, work, image } = side;
+        let lent = &mut side.lent();
         Answer::of(match *self {
             Call::Place { cards, stripes, block } => calls.place(cards, stripes, block),
             Call::BlockAt { cards, stripes, card, stripe } => {
                 calls.block_at(cards, stripes, card, stripe)
             }
-            Call::Scan => calls.scan(state, image),
+            Call::Scan => calls.scan(lent.state, lent.image),
             Call::Open { cards, stripes, block, records, out } => {
-                calls.open(state, table, work, image, cards, stripes, block, records, out)
+                calls.open(lent, &State { cards, stripes, block, records, out, lost: 0 })
             }
             Call::Admit { write, stripe, mask, ref payload } => {
-                calls.admit(state, table, work, image, write, stripe, mask, payload)
+                calls.admit(lent, write, stripe, mask, payload)
             }
-            Call::Step { record, step } => calls.step(state, table, work, image, record, step),
-            Call::Report { card } => calls.report(state, card),
-            Call::Collect { record } => calls.collect(state, table, work, record, result),
-            Call::Check => calls.check(state, table, image),
+            Call::Step { record, step } => calls.step(lent, record, step),
+            Call::Report { card } => calls.report(lent.state, card),
+            Call::Collect { record } => calls.collect(lent, record, result),
+            Call::Check => calls.check(lent.state, lent.table, lent.image),
         })
     }
 }
@@ -128,14 +134,8 @@ impl<'a> Pair<'a> {
         if let Some(what) = self.difference() {
             return told(&what);
         }
-        if theirs.number != 0 {
-            let mut before = self.before.clone();
-            if let Call::Open { .. } = call {
-                before.state = State::default();
-            }
-            if self.theirs != before || *result != filled {
-                return told("a refused call altered something");
-            }
+        if theirs.number != 0 && (self.theirs != self.before || *result != filled) {
+            return told("a refused call altered something");
         }
         Ok(theirs)
     }

@@ -1,162 +1,55 @@
-//! The plain engine for the fuzz target: the functions of include/coppicetune.h under names that
-//! begin with plain_ in place of coppicetune_.
+//! The plain engine for the fuzz target: one function that makes any call on a side, as `harness/fuzz/both.h` has them.
 
-#![allow(clippy::missing_safety_doc, clippy::too_many_arguments)]
+use harness::calls::{Calls, Lent, Plain, Record, State};
 
-use harness::calls::{Calls, Plain, Record, State};
-
-/// What C lends as a pointer and a length; with length 0 the pointer may be anything.
-unsafe fn lent<'a, T>(start: *const T, length: usize) -> &'a [T] {
-    if length == 0 {
-        &[]
-    } else {
-        std::slice::from_raw_parts(start, length)
-    }
-}
-
-/// The same, to be altered.
-unsafe fn lent_mut<'a, T>(start: *mut T, length: usize) -> &'a mut [T] {
-    if length == 0 {
-        &mut []
-    } else {
-        std::slice::from_raw_parts_mut(start, length)
-    }
-}
-
-#[no_mangle]
-pub extern "C" fn plain_place(cards: u64, stripes: u64, block: u64) -> u64 {
-    Plain.place(cards, stripes, block)
-}
-
-#[no_mangle]
-pub extern "C" fn plain_block_at(cards: u64, stripes: u64, card: u64, stripe: u64) -> u64 {
-    Plain.block_at(cards, stripes, card, stripe)
-}
-
-#[no_mangle]
-pub unsafe extern "C" fn plain_scan(
-    cards: u64,
-    stripes: u64,
-    block: u64,
-    records: u64,
-    out: u64,
-    lost: u64,
-    image: *const u8,
-    image_len: usize,
-) -> u64 {
-    let state = State { cards, stripes, block, records, out, lost };
-    Plain.scan(&state, lent(image, image_len))
-}
-
-#[no_mangle]
-pub unsafe extern "C" fn plain_open(
-    state: *mut State,
-    table: *mut Record,
+/// `struct side`: all that a caller lends, and how much of it.
+#[repr(C)]
+pub struct Side {
+    state: State,
+    table: [Record; 16],
     table_len: usize,
-    work: *mut u8,
     work_len: usize,
-    image: *const u8,
     image_len: usize,
-    cards: u64,
-    stripes: u64,
-    block: u64,
-    records: u64,
-    out: u64,
-) -> u64 {
-    Plain.open(
-        &mut *state,
-        lent_mut(table, table_len),
-        lent_mut(work, work_len),
-        lent(image, image_len),
-        cards,
-        stripes,
-        block,
-        records,
-        out,
-    )
-}
-
-#[no_mangle]
-pub unsafe extern "C" fn plain_admit(
-    state: *const State,
-    table: *mut Record,
-    table_len: usize,
-    work: *mut u8,
-    work_len: usize,
-    image: *const u8,
-    image_len: usize,
-    write: u64,
-    stripe: u64,
-    mask: u64,
-    payload: *const u8,
     payload_len: usize,
-) -> u64 {
-    Plain.admit(
-        &*state,
-        lent_mut(table, table_len),
-        lent_mut(work, work_len),
-        lent(image, image_len),
-        write,
-        stripe,
-        mask,
-        lent(payload, payload_len),
-    )
-}
-
-#[no_mangle]
-pub unsafe extern "C" fn plain_step(
-    state: *const State,
-    table: *mut Record,
-    table_len: usize,
-    work: *mut u8,
-    work_len: usize,
-    image: *mut u8,
-    image_len: usize,
-    record: u64,
-    step: u64,
-) -> u64 {
-    Plain.step(
-        &*state,
-        lent_mut(table, table_len),
-        lent_mut(work, work_len),
-        lent_mut(image, image_len),
-        record,
-        step,
-    )
-}
-
-#[no_mangle]
-pub unsafe extern "C" fn plain_report(state: *mut State, card: u64) -> u64 {
-    Plain.report(&mut *state, card)
-}
-
-#[no_mangle]
-pub unsafe extern "C" fn plain_collect(
-    state: *const State,
-    table: *mut Record,
-    table_len: usize,
-    work: *const u8,
-    work_len: usize,
-    record: u64,
-    result: *mut u8,
     result_len: usize,
-) -> u64 {
-    Plain.collect(
-        &*state,
-        lent_mut(table, table_len),
-        lent(work, work_len),
-        record,
-        lent_mut(result, result_len),
-    )
+    work: [u8; 1 << 17],
+    image: [u8; 1 << 17],
+    payload: [u8; 8192],
+    result: [u8; 8192],
 }
 
+/// `struct ask`: a call and its numbers, in the order of its arguments.
+#[repr(C)]
+pub struct Ask {
+    call: u32,
+    number: [u64; 5],
+}
+
+/// Makes a call of the plain engine. Neither pointer is null.
 #[no_mangle]
-pub unsafe extern "C" fn plain_check(
-    state: *const State,
-    table: *const Record,
-    table_len: usize,
-    image: *const u8,
-    image_len: usize,
-) -> u64 {
-    Plain.check(&*state, lent(table, table_len), lent(image, image_len))
+pub extern "C" fn make_plain(ask: &Ask, side: &mut Side) -> u64 {
+    let [a, b, c, d, e] = ask.number;
+    let lent = &mut Lent {
+        state: &mut side.state,
+        table: &mut side.table[..side.table_len],
+        work: &mut side.work[..side.work_len],
+        image: &mut side.image[..side.image_len],
+    };
+    let payload = &side.payload[..side.payload_len];
+    let result = &mut side.result[..side.result_len];
+    match ask.call {
+        0 => Plain.place(a, b, c),
+        1 => Plain.block_at(a, b, c, d),
+        2 => Plain.scan(lent.state, lent.image),
+        3 => {
+            let asked = State { cards: a, stripes: b, block: c, records: d, out: e, lost: 0 };
+            Plain.open(lent, &asked)
+        }
+        4 => Plain.admit(lent, a, b, c, payload),
+        5 => Plain.step(lent, a, b),
+        6 => Plain.report(lent.state, a),
+        7 => Plain.collect(lent, a, result),
+        8 => Plain.check(lent.state, lent.table, lent.image),
+        call => panic!("there is no call {call}"),
+    }
 }

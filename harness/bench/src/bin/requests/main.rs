@@ -8,7 +8,7 @@
 
 mod moves;
 
-use harness::calls::{pack, Answer, Calls, Plain, Record, State, Tested};
+use harness::calls::{pack, Answer, Calls, Lent, Plain, Record, State, Tested};
 use harness::plain::blocks::make_right;
 use harness::plain::graph::{members, Plan};
 use harness::plain::placement::card_at;
@@ -87,13 +87,14 @@ impl Bench {
 
     /// One request from admission to collection; the collection's answer.
     fn request<C: Calls>(&mut self, calls: &C, write: bool, stripe: u64) -> u64 {
-        let Bench { state, table, work, image, mask, payload, .. } = self;
-        let admitted = calls.admit(state, table, work, image, write as u64, stripe, *mask, payload);
+        let Bench { state, table, work, image, .. } = self;
+        let lent = &mut Lent { state, table, work, image };
+        let admitted = calls.admit(lent, write as u64, stripe, self.mask, &self.payload);
         let record = Answer::of(admitted).first;
         for &step in &self.steps {
-            calls.step(state, table, work, image, record, step);
+            calls.step(lent, record, step);
         }
-        calls.collect(state, table, work, record, &mut self.result)
+        calls.collect(lent, record, &mut self.result)
     }
 
     /// The request on every stripe in turn, each collected with the count that it should have.
