@@ -3,6 +3,7 @@ pub mod Places
 pub mod Turns
 pub mod Answered
 pub mod Inverse
+pub mod Missing
 pub mod Single
 pub mod Grid
 pub mod Apart

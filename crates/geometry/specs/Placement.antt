@@ -1,8 +1,9 @@
 -- Document 01, "Placement": the left-symmetric layout of RAID level 5. A position of a stripe is 0 to n-1 for its units and n for its
 -- parity, n = N-1.
 -- Assumes nothing.
-use Prim.Native.Nat.{ℕ, _+_, _-_, _*_, _/_, _%_}
+use Prim.Native.Nat.{ℕ, _+_, _-_, _*_, _/_, _%_, _<_}
 use mathlib.Core.Bool.{cond}
+use mathlib.Core.Path.{_≡_}
 use lib.Dec.{ltb}
 use Rattle.geometry.specs.declared.State.{State}
 
@@ -36,6 +37,11 @@ blockOf N s i = (N - 1) * s + i
 -- the card that is missing in a stripe, or 255: the card that is out
 unfoldable pub outIn : State → ℕ → ℕ
 outIn st s = st .out
+
+-- card c's block is missing in stripe s: a relation, so that nothing above rests on there being one such card at most
+pub record Missing (st : State) (c s : ℕ) : Type 0 where
+  pub is-card : c < st .cards
+  pub is-out : c ≡ outIn st s
 
 -- the position of a card in stripe s where it is below N, and N, which is no position, where it is not
 unfoldable pub missingAt : ℕ → ℕ → ℕ → ℕ

@@ -2,6 +2,7 @@
 -- Assumes nothing.
 use Prim.Native.Nat.{ℕ, _≤_}
 use mathlib.Core.Bool.{Bool}
+use mathlib.Core.Logic.{⊎-map}
 use mathlib.Core.Path.{_≡_, _∙_}
 use native.Mathlib.Omega.{arith}
 use Rattle.stripe.proofs.Chosen.{Chosen, degraded-read, plain-read, parity-failed, large-write, reconstruct-out, small-out, small-none, reconstruct-none, chosen-graph}
@@ -47,4 +48,5 @@ module _ (G : Group) (n x : ℕ) where
         computed = λ g d. near .same-new n (omega arith) ∙ f .computed g d;
         written = λ p l d e. near .same-cell p l d ∙ f .written p l d e;
         unwritten = λ p l d e u. near .same-cell p l d ∙ f .unwritten p l d e u;
+        either = λ p l d. ⊎-map (λ h. near .same-cell p l d ∙ h) (λ h. near .same-cell p l d ∙ h) (f .either p l d);
       }

@@ -129,7 +129,7 @@ module _ (w : World) (a : Account) (sure : Sure w a) where
       go (inl o) = omega (arith, most-open i h o)
       go (inr o) =
           let count = fits (sure .right) i h f .right-count in
-          let l = leb-true (recordAt w i .count) (2 * unitsOf st + 3) (and-right (lacksNone st (recordAt w i)) _ (rw o at count)) in
+          let l = leb-true (recordAt w i .count) (2 * unitsOf st + 3) (and-right (lacksNone st (recordAt w i)) _ (and-right (isFinished (recordAt w i)) _ (rw o at count))) in
           omega (arith, sure .entries i h f .same-count)
 
   -- ---- what is lent is right

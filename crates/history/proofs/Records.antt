@@ -129,7 +129,7 @@ stepped-fit st r k x f p =
     going false = refl
 
     counted : (t : Bool) → complete (unitsOf st) (r .graph) (r .mask) (chosenAt st r) (after (r .done) k) ≡ t
-        → cond (eqb (cond t 2 1) 1) (not t && leb (r .count + 1) (2 * unitsOf st + 2)) (t && leb (r .count + 1) (2 * unitsOf st + 3)) ≡ true
+        → cond (eqb (cond t 2 1) 1) (not t && leb (r .count + 1) (2 * unitsOf st + 2)) (eqb (cond t 2 1) 2 && (t && leb (r .count + 1) (2 * unitsOf st + 3))) ≡ true
     counted true e = le-leb (r .count + 1) (2 * unitsOf st + 3) (numbers (unitsOf st) .at-most x (requestOf st (stepped st r k)) p)
     counted false e = le-leb (r .count + 1) (2 * unitsOf st + 2) (numbers (unitsOf st) .at-most-open x (requestOf st (stepped st r k)) p e)
 

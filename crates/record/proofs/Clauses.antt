@@ -1,17 +1,17 @@
 -- A record's phases shut each other out, and a sound record that is not free, clause by clause.
 -- Assumes nothing.
-use Prim.Native.Nat.{ℕ, _<_}
-use mathlib.Core.Bool.{Bool, true, false, _&&_, _||_}
+use Prim.Native.Nat.{ℕ, _+_, _*_, _<_}
+use mathlib.Core.Bool.{Bool, true, false, cond, not, _&&_, _||_}
 use mathlib.Core.Logic.{_⊎_, inl, inr}
 use mathlib.Core.Path.{_≡_, refl, sym, _∙_}
 use native.Mathlib.Omega.{arith}
 use borrow.Author.Tests.{eqb-true, ne-eqb, ltb-true, lt-ltb}
-use lib.Dec.{ltb, eqb}
+use lib.Dec.{ltb, leb, eqb}
 use Rattle.terms.specs.Sets.{within}
-use Rattle.terms.proofs.Rows.{and-left, and-right, or-cases}
+use Rattle.terms.proofs.Rows.{true≢false, and-left, and-right, or-cases}
 use Rattle.geometry.specs.declared.State.{State}
 use Rattle.record.specs.Life.{free, isFree, isOpen, isFinished, unitsOf}
-use Rattle.record.specs.Sound.{allZero, legalMask, legalRecord, legalChosen, rightGraph, rightSteps, rightCount, soundRecord}
+use Rattle.record.specs.Sound.{allZero, legalMask, legalRecord, legalChosen, rightGraph, rightSteps, lacksNone, rightCount, soundRecord}
 use Rattle.record.specs.declared.Record.{Record}
 
 -- ---- free, open and finished shut each other out
@@ -48,6 +48,16 @@ module _ (st : State) where
     pub right-steps : rightSteps st r ≡ true
     pub right-count : rightCount st r ≡ true
 
+  -- a legal record is open or finished
+  pub legal-going : (r : Record) → legalRecord st r ≡ true → (isOpen r || isFinished r) ≡ true
+  unfolding legalRecord
+  legal-going r e =
+      let m1 : Bool = isOpen r || isFinished r in
+      let m2 : Bool = m1 && within 0 1 (r .write) in
+      let m3 : Bool = m2 && ltb (r .stripe) (st .stripes) in
+      let m4 : Bool = m3 && legalMask (unitsOf st) (r .mask) in
+      and-left m1 _ (and-left m2 _ (and-left m3 _ (and-left m4 (within 1 6 (r .graph)) e)))
+
   pub fit : (r : Record) → soundRecord st r ≡ true → isFree r ≡ false → Fit r
   unfolding soundRecord legalRecord
   fit r e f =
@@ -68,7 +78,7 @@ module _ (st : State) where
       let e3 = and-left m3 (legalMask (unitsOf st) (r .mask)) e4 in
       let e2 = and-left m2 (ltb (r .stripe) (st .stripes)) e3 in
       record {
-        going = and-left m1 (within 0 1 (r .write)) e2;
+        going = legal-going r e5;
         kind = and-right m1 (within 0 1 (r .write)) e2;
         stripe-below = ltb-true (r .stripe) (st .stripes) (and-right m2 (ltb (r .stripe) (st .stripes)) e3);
         mask-legal = and-right m3 (legalMask (unitsOf st) (r .mask)) e4;
@@ -78,6 +88,18 @@ module _ (st : State) where
         right-steps = and-right m7 (rightSteps st r) e8;
         right-count = and-right m8 (rightCount st r) all;
       }
+
+  -- a legal record's count is tested as an open one's, or as a finished one's
+  pub count-going : (r : Record) → legalRecord st r ≡ true
+      → rightCount st r
+      ≡ cond (isOpen r) (not (lacksNone st r) && leb (r .count) (2 * unitsOf st + 2)) (lacksNone st r && leb (r .count) (2 * unitsOf st + 3))
+  unfolding rightCount
+  count-going r e = go (isOpen r) (isFinished r) _ _ (legal-going r e)
+    where
+      go : (o f s t : Bool) → (o || f) ≡ true → cond o s (f && t) ≡ cond o s t
+      go true f s t h = refl
+      go false true s t h = refl
+      go false false s t h = true≢false (sym h)
 
   going-not-free : (r : Record) → (isOpen r || isFinished r) ≡ true → isFree r ≡ false
   going-not-free r e = go (or-cases (isOpen r) (isFinished r) e)

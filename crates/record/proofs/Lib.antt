@@ -9,3 +9,4 @@ pub mod Filling
 pub mod Marked
 pub mod Clauses
 pub mod Soundness
+pub mod Surveyed

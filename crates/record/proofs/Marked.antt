@@ -19,6 +19,7 @@ use Rattle.geometry.specs.declared.State.{State}
 use Rattle.graph.proofs.Rules.{both-ways}
 use Rattle.record.proofs.Clashes.{eqb-sym, apart-elim, apart-intro}
 use Rattle.record.proofs.Filling.{filling, filling-is}
+use Rattle.record.proofs.Loops.{all-every}
 use Rattle.record.proofs.Soundness.{sound-elim, sound-record}
 use Rattle.record.specs.Asked.{fewIn, noStripe, heldStripe, soundRecordIn}
 use Rattle.record.specs.Life.{free, isFree, isOpen}
@@ -111,12 +112,6 @@ any-of : (i : ℕ) (x : Bool) (p : ℕ → Bool) → not (x && not (allBelow i (
 any-of i true p = Bool·not-not (allBelow i (λ j. not (p j)))
 any-of i false p = sym (allBelow-intro i (λ j. true) (λ j h. refl))
 
--- what holds at each place holds of every element
-all-every : (p : Record → Bool) (l : List Record) → allBelow (length l) (λ i. p (getD l i free)) ≡ every p l
-all-every p l =
-    both-ways (allBelow (length l) (λ i. p (getD l i free))) (every p l) (λ e. every-intro p l free (allBelow-elim (length l) (λ i. p (getD l i free)) e))
-    (λ e. allBelow-intro (length l) (λ i. p (getD l i free)) (λ i h. every-elim p l i free e h))
-
 -- ---- a table's marks
 
 module _ (st : State) (l : List Record) (small : length l ≤ 8) where
@@ -198,7 +193,7 @@ module _ (st : State) (l : List Record) (small : length l ≤ 8) where
           ∙ among-is s (length l) (omega arith)
           ∙ ap not
           (allBelow-cong (length l) (λ j. not (eqb (markOf st (rec j)) s)) (λ j. not (holds s (rec j))) (λ j k. ap not (mark-holds st few stripes (rec j) (kinds j) s h))
-          ∙ all-every (λ r. not (holds s r)) l)
+          ∙ all-every (λ r. not (holds s r)) l free)
 
       -- and has the lowest free record that it has
       pub free-marks : freeMarks (marksOf st l) ≡ lowestFree l

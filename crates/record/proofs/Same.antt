@@ -1,7 +1,8 @@
--- Two records are equal where their numbers are.
+-- Two records are equal where their numbers are, and two surveys where all that they tell is.
 -- Assumes nothing.
 use mathlib.Core.Path.{_≡_}
 use Rattle.record.specs.declared.Record.{Record}
+use Rattle.record.specs.declared.Survey.{Survey}
 
 pub same : (r q : Record) → r .phase ≡ q .phase → r .write ≡ q .write → r .stripe ≡ q .stripe → r .mask ≡ q .mask → r .graph ≡ q .graph
     → r .chosen ≡ q .chosen → r .done ≡ q .done → r .count ≡ q .count → r ≡ q
@@ -15,3 +16,6 @@ same r q a b c d e f g h = λ i. record {
   done = g i;
   count = h i;
 }
+
+pub same-survey : (v w : Survey) → v .len ≡ w .len → v .sound ≡ w .sound → v .held ≡ w .held → v .free ≡ w .free → v ≡ w
+same-survey v w a b c d = λ i. record { len = a i; sound = b i; held = c i; free = d i }

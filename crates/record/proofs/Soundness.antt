@@ -6,7 +6,7 @@ use mathlib.Core.List.{List}
 use mathlib.Core.Logic.{_⊎_, inl, inr, ⊎-elim}
 use mathlib.Core.Path.{_≡_, ap, _∙_}
 use native.Mathlib.Omega.{arith}
-use borrow.Author.Tests.{ltb-true, ltb-false, lt-ltb, leb-true, eqb-true, eqb-false, not-true}
+use borrow.Author.Tests.{ltb-true, ltb-false, lt-ltb, leb-true, eqb-true, eqb-false, eq-eqb, not-true}
 use lib.Dec.{ltb, leb, eqb}
 use lib.ListN.{length, getD, List·getD-eq-default}
 use Rattle.terms.proofs.Lists.{every-elim}
@@ -23,7 +23,7 @@ use Rattle.record.specs.Asked.{fewIn, canCount, canStep, steppedOr, afre
 use Rattle.record.specs.Life.{free, isFree, isOpen, isFinished, isWrite, unitsOf, chosenAt, stepped, afresh}
 use Rattle.record.specs.Sound.{legalMask, legalChosen, rightGraph, rightSteps, lacksNone, rightCount, soundRecord, apart, sound}
 use Rattle.record.specs.declared.Record.{Record}
-use Rattle.record.proofs.Clauses.{fit, free-sound, open-not-free}
+use Rattle.record.proofs.Clauses.{fit, free-sound, open-not-free, finished-not-open}
 
 -- the clauses, as facts
 pub record Sound (st : State) (r : Record) : Type 0 where
@@ -37,7 +37,7 @@ pub record Sound (st : State) (r : Record) : Type 0 where
   pub in-order : closed (unitsOf st) (r .graph) (r .mask) (chosenAt st r) (r .done) ≡ true
   pub open-lacks : isOpen r ≡ true
       → (complete (unitsOf st) (r .graph) (r .mask) (chosenAt st r) (r .done) ≡ false) × (r .count ≤ 2 * unitsOf st + 2)
-  pub finished-lacks : isOpen r ≡ false
+  pub finished-lacks : isFinished r ≡ true
       → (complete (unitsOf st) (r .graph) (r .mask) (chosenAt st r) (r .done) ≡ true) × (r .count ≤ 2 * unitsOf st + 3)
 
 module _ (st : State) (r : Record) where
@@ -63,7 +63,7 @@ module _ (st : State) (r : Record) where
             let k : (not whole && leb (r .count) (most + 2)) ≡ true = rw o at (b .right-count) in
             (not-true whole (and-left (not whole) (leb (r .count) (most + 2)) k), leb-true (r .count) (most + 2) (and-right (not whole) (leb (r .count) (most + 2)) k));
         finished-lacks = λ o.
-            let k : (whole && leb (r .count) (most + 3)) ≡ true = rw o at (b .right-count) in
+            let k : (whole && leb (r .count) (most + 3)) ≡ true = rw (finished-not-open r o, o) at (b .right-count) in
             (and-left whole (leb (r .count) (most + 3)) k, leb-true (r .count) (most + 3) (and-right whole (leb (r .count) (most + 3)) k));
       }
 
@@ -84,7 +84,7 @@ module _ (st : State) (r : Record) where
       let b = sound-elim s f in
       let few = few-elim n in
       lt-ltb (r .count) 18446744073709551615
-      (⊎-elim (λ o. let c = b .open-lacks o .1 in omega arith) (λ o. let c = b .finished-lacks o .1 in omega arith) (truth (isOpen r)))
+      (⊎-elim (λ o. let c = b .open-lacks (eq-eqb (r .phase) 1 o) .1 in omega arith) (λ o. let c = b .finished-lacks (eq-eqb (r .phase) 2 o) .1 in omega arith) (b .busy))
 
   -- a ready step of a sound record is marked, and a fresh choice is made
   pub stepped-is : soundRecord st r ≡ true → isOpen r ≡ true → fewIn st ≡ true → (k : ℕ)

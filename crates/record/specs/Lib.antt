@@ -4,3 +4,4 @@ pub mod Sound
 pub mod Asked
 pub mod Marks
 pub mod Survey
+pub mod Seen

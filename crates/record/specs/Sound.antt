@@ -61,7 +61,7 @@ unfoldable pub rightCount : State → Record → Bool
 rightCount st r =
     cond (isOpen r)
     (not (lacksNone st r) && leb (r .count) (2 * unitsOf st + 2))
-    (lacksNone st r && leb (r .count) (2 * unitsOf st + 3))
+    (isFinished r && (lacksNone st r && leb (r .count) (2 * unitsOf st + 3)))
 
 -- a record is sound
 unfoldable pub soundRecord : State → Record → Bool

@@ -1,4 +1,4 @@
-// The request record by value, the table of up to eight of them, and its marks.
+// The request record by value, the table of up to eight of them, its survey and its marks.
 // Assumes nothing.
 pub use life::admitted;
 pub use life::free;
@@ -7,6 +7,7 @@ pub use sound::legal_mask;
 mod life;
 mod marking;
 mod sound;
+mod surveys;
 mod tables;
 
 // A request record. A free one is all zero.

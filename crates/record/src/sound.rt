@@ -131,7 +131,7 @@ impl Record {
     }
 
     // The stripe that the record holds, or a number that is no stripe's.
-    fn held_stripe(self) -> u64
+    pub(crate) fn held_stripe(self) -> u64
         ensures { λ r. ⌜ r ≡ heldStripe self ⌝ }
     {
         if self.phase == 1 {

@@ -64,7 +64,7 @@ finished-count st r e f =
     let s : (legalRecord st r && legalChosen st r && rightGraph st r && rightSteps st r && rightCount st r) ≡ true =
     rw (ne-eqb (r .phase) 0 (λ z. omega arith)) at e in
     let counted = and-right (legalRecord st r && legalChosen st r && rightGraph st r && rightSteps st r) (rightCount st r) s in
-    let most : (lacksNone st r && leb (r .count) (2 * unitsOf st + 3)) ≡ true = rw (ne-eqb (r .phase) 1 (λ z. omega arith)) at counted in
+    let most : (lacksNone st r && leb (r .count) (2 * unitsOf st + 3)) ≡ true = rw (ne-eqb (r .phase) 1 (λ z. omega arith), f) at counted in
     leb-true (r .count) (2 * unitsOf st + 3) (and-right (lacksNone st r) (leb (r .count) (2 * unitsOf st + 3)) most)
 
 -- no number of a refusal is above 13

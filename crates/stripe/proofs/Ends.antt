@@ -6,14 +6,14 @@ use mathlib.Core.Logic.{_⊎_, inl, inr}
 use mathlib.Core.Path.{_≡_, refl, sym, ap, _∙_}
 use native.Mathlib.Omega.{arith}
 use lib.Dec.{eqb}
-use borrow.Author.Tests.{eqb-false}
+use borrow.Author.Tests.{eqb-true, eqb-false}
 use Rattle.terms.proofs.Bits.{bit-none}
 use Rattle.terms.proofs.Rows.{true≢false, truth}
 use Rattle.graph.specs.Order.{complete}
 use Rattle.graph.specs.Steps.{wr, numberOf, byGraph, masked, unmasked, reads, sums, writes, member}
 use Rattle.graph.proofs.Laws.{complete-elim}
 use Rattle.graph.proofs.Numbers.{stepOf-read, stepOf-sum, stepOf-write}
-use Rattle.stripe.specs.Blocks.{Blocks}
+use Rattle.stripe.specs.Blocks.{Blocks, changed}
 use Rattle.stripe.specs.Group.{Group, sumTo, others}
 use Rattle.stripe.specs.Invariant.{Proper, Faithful, Idle, IsRow, rowAfter, isDone}
 use Rattle.stripe.specs.Request.{Request, begun}
@@ -21,7 +21,7 @@ use Rattle.stripe.proofs.Chosen.{row-of}
 use Rattle.stripe.proofs.NewRow.{after-read, after-row, after-others, after-new}
 use Rattle.stripe.proofs.Places.{reads-all, writes-all, masked-below}
 use Rattle.stripe.proofs.Steps.{read-cell, outside-cell}
-use Rattle.stripe.proofs.Sums.{row-others, sum-cong}
+use Rattle.stripe.proofs.Sums.{row-others, sum-cong, changed-same, changed-other}
 
 -- at admission, for any row that the request is to make
 pub begun-faithful : (G : Group) (n x : ℕ) (write : Bool) (mask : ℕ) (R R′ : ℕ → G .carrier) (b : Blocks (G .carrier))
@@ -43,6 +43,7 @@ begun-faithful G n x write mask R R′ b I row same others-same kept =
       computed = λ f d. true≢false (sym d ∙ bit-none (n + 1));
       written = λ p l h d. true≢false (sym d ∙ bit-none (n + 2 + p));
       unwritten = λ p l h d u. I .holds p l h;
+      either = λ p l h. inl (I .holds p l h);
     }
 
 -- and for the row after the request
@@ -115,3 +116,16 @@ missing-inferred G n x R cell l I =
     same : (p : ℕ) → p ≤ n → (t : Bool) → eqb p x ≡ t → others G x R p ≡ others G x cell p
     same p i true e = rw e
     same p i false e = rw e (sym (I .holds p i (eqb-false p x e)))
+
+-- a stripe whose missing position is filled with that sum holds the row throughout, so it does whichever position goes missing next
+pub put-right : (G : Group) (n x y : ℕ) (R cell : ℕ → G .carrier) → x ≤ n → Idle G n x R cell
+    → Idle G n y R (changed cell x (sumTo G (suc n) (others G x cell)))
+put-right G n x y R cell l I = record { row = I .row; holds = λ p i h. filled p i (truth (eqb p x)) }
+  where
+    sum : G .carrier
+    sum = sumTo G (suc n) (others G x cell)
+
+    filled : (p : ℕ) → p ≤ n → (eqb p x ≡ true) ⊎ (eqb p x ≡ false) → changed cell x sum p ≡ R p
+    filled p i (inl e) =
+        changed-same cell x sum p (eqb-true p x e) ∙ sym (missing-inferred G n x R cell l I) ∙ ap R (sym (eqb-true p x e))
+    filled p i (inr e) = changed-other cell x sum p (eqb-false p x e) ∙ I .holds p i (eqb-false p x e)

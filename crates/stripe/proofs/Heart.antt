@@ -4,7 +4,7 @@
 -- and every event keeps them. Of the request's numbers, Proper: its graph is the table's choice for the position that was missing when it was
 -- chosen, its done steps are in order, and its count with the steps still wanting stays within 2n+3. Of the blocks, Faithful: with R the row
 -- before the request and R′ the row after it, a done read holds R, a done exclusive or holds X of R or parity of R′, a working position holds
--- R′ once it is written, and R before wherever a step or a fresh choice still counts on it.
+-- R′ once it is written, and R before wherever a step or a fresh choice still counts on it; and always one of the two.
 --
 -- Why nothing is lost when a card dies half way: units already written are new, so a graph that is chosen afresh must not need old ones. Graphs
 -- 4, 5 and 6 need none but units outside the mask, which no write touches. Graph 3 does: it takes parity and the masked units as a consistent
@@ -16,14 +16,14 @@ use mathlib.Core.Bool.{Bool, true, false}
 use mathlib.Core.Path.{_≡_}
 use Rattle.graph.specs.Steps.{stepOf, masked}
 use Rattle.graph.proofs.Laws.{progress}
-use Rattle.stripe.specs.Blocks.{Blocks, On, Alike, performed}
+use Rattle.stripe.specs.Blocks.{Blocks, On, Alike, changed, performed}
 use Rattle.stripe.specs.Group.{Group, sumTo, others}
 use Rattle.stripe.specs.Invariant.{Proper, Idle, Faithful, rowAfter}
 use Rattle.stripe.specs.Request.{Request, readyAt, finished, begun, advanced, chosenAfresh}
 use Rattle.stripe.proofs.Afresh.{none-missed}
 use Rattle.stripe.proofs.Alike.{done-alike}
 use Rattle.stripe.proofs.Counts.{begun-proper, step-proper, afresh-proper, failed-proper, count-bound, open-bound}
-use Rattle.stripe.proofs.Ends.{begun-after, ended-idle, ended-read, missing-inferred}
+use Rattle.stripe.proofs.Ends.{begun-after, ended-idle, ended-read, missing-inferred, put-right}
 use Rattle.stripe.proofs.Kept.{done-faithful, afresh-faithful, failed-idle, failed-faithful, decayed-idle, decayed-faithful}
 use Rattle.stripe.proofs.Opens.{starts-open}
 use Rattle.stripe.proofs.Readied.{readied}
@@ -90,6 +90,9 @@ pub record Heart (G : Group) (n : ℕ) : Type 0 where
       → finished n q ≡ true → q .write ≡ false → (p : ℕ) → masked n (q .mask) p ≡ true → b .got p ≡ R p
   -- a missing position of an idle stripe is the sum of the others
   pub inferred : (x : ℕ) (R cell : ℕ → G .carrier) → x ≤ n → Idle G n x R cell → R x ≡ sumTo G (suc n) (others G x cell)
+  -- and filled with that sum nothing is missing, and the row is the same: the mirror of a failure
+  pub put-right : (x y : ℕ) (R cell : ℕ → G .carrier) → x ≤ n → Idle G n x R cell
+      → Idle G n y R (changed cell x (sumTo G (suc n) (others G x cell)))
   -- two stripes that differ at the missing position alone stay so
   pub alike : (x : ℕ) (q : Request) (k : ℕ) (b b′ : Blocks (G .carrier)) → Alike n x b b′ → readyAt n q k ≡ true → ¬ On x (stepOf n k)
       → Alike n x (performed G n q (stepOf n k) b) (performed G n q (stepOf n k) b′)
@@ -107,5 +110,6 @@ heart G n =
       ended = ended-idle G n;
       ended-read = ended-read G n;
       inferred = missing-inferred G n;
+      put-right = put-right G n;
       alike = λ x q k b b′ same. done-alike G n x q b b′ same k;
     }

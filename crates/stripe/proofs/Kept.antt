@@ -3,7 +3,7 @@
 -- Assumes nothing.
 use Prim.Native.Nat.{ℕ, _+_, _≤_, _<_}
 use mathlib.Core.Bool.{true, false}
-use mathlib.Core.Logic.{_⊎_, inl, inr}
+use mathlib.Core.Logic.{_⊎_, inl, inr, ⊎-map}
 use mathlib.Core.Path.{_≡_, sym, ap, subst, _∙_}
 use native.Mathlib.Omega.{arith}
 use borrow.Author.Tests.{eq-eqb}
@@ -81,6 +81,7 @@ module _ (G : Group) (n x : ℕ) (q : Request) (R R′ : ℕ → G .carrier) (b 
           computed = λ f d. true≢false (sym d ∙ bit-none (n + 1));
           written = λ p i h d. true≢false (sym d ∙ bit-none (n + 2 + p));
           unwritten = λ p i h d u. untouched p i h u;
+          either = F .either;
         }
       where
         r : Readied n (q .graph) (q .mask) (q .missed) (q .done) k (stepOf n k)
@@ -112,6 +113,7 @@ failed-faithful G n x y q R R′ b F h =
       computed = F .computed;
       written = λ p l m e. F .written p l (λ i. omega arith) e;
       unwritten = λ p l m e u. F .unwritten p l (λ i. omega arith) e u;
+      either = λ p l m. F .either p l (λ i. omega arith);
     }
 
 -- what a missing position holds may change
@@ -134,4 +136,5 @@ decayed-faithful G n x q R R′ b cell′ e F =
       computed = F .computed;
       written = λ p l m d. e p l m ∙ F .written p l m d;
       unwritten = λ p l m d u. e p l m ∙ F .unwritten p l m d u;
+      either = λ p l m. ⊎-map (λ f. e p l m ∙ f) (λ f. e p l m ∙ f) (F .either p l m);
     }

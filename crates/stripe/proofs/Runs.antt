@@ -2,6 +2,7 @@
 -- Assumes nothing.
 use Prim.Native.Nat.{ℕ, suc, _*_, _+_, _^_, _≤_, _<_}
 use mathlib.Core.Bool.{Bool, true, false}
+use mathlib.Core.Logic.{_⊎_}
 use mathlib.Core.Path.{_≡_, refl, sym, _∙_}
 use Rattle.graph.specs.Steps.{masked}
 use Rattle.stripe.specs.Blocks.{Blocks}
@@ -18,6 +19,8 @@ module _ (G : Group) (n : ℕ) (write : Bool) (mask : ℕ) (R new : ℕ → G .c
     pub at-most : q .count ≤ 2 * n + 3
     pub at-most-open : finished n q ≡ false → q .count ≤ 2 * n + 2
     pub goes-on : finished n q ≡ false → (k : ℕ) × (readyAt n q k ≡ true)
+    -- at every moment a working position holds the old row or the new one
+    pub either : (p : ℕ) → p ≤ n → ¬ (p ≡ x) → (b .cell p ≡ R p) ⊎ (b .cell p ≡ rowAfter G n write mask R new p)
     -- once it is finished: working positions hold the new row, a missing one is the sum of the others, a read's blocks are the row's
     pub holds : finished n q ≡ true → (p : ℕ) → p ≤ n → ¬ (p ≡ x) → b .cell p ≡ rowAfter G n write mask R new p
     pub infers : finished n q ≡ true → x ≤ n → sumTo G (suc n) (others G x (b .cell)) ≡ rowAfter G n write mask R new x
@@ -82,6 +85,7 @@ module _ (G : Group) (n : ℕ) (write : Bool) (mask : ℕ) (R new : ℕ → G .c
           at-most = numbers n .at-most x q (i .proper);
           at-most-open = numbers n .at-most-open x q (i .proper);
           goes-on = numbers n .goes-on q;
+          either = i .faithful .either;
           holds = λ e. idle e .holds;
           infers = λ e l. sym (heart G n .inferred x (rowAfter G n write mask R new) (b .cell) l (idle e));
           gives = λ e w p m.

@@ -2,7 +2,7 @@
 -- Assumes nothing.
 use Prim.Native.Nat.{ℕ, _+_, _≤_}
 use mathlib.Core.Bool.{true, false}
-use mathlib.Core.Logic.{_⊎_, inl, inr}
+use mathlib.Core.Logic.{_⊎_, inl, inr, ⊎-map}
 use mathlib.Core.Path.{_≡_, refl, sym, ap, _∙_}
 use native.Mathlib.Omega.{arith}
 use lib.Dec.{eqb}
@@ -84,6 +84,7 @@ module _ (G : Group) (n x : ℕ) (q : Request) (R R′ : ℕ → G .carrier) (b 
           computed = λ f e. F .computed f (sym sum-still ∙ e);
           written = λ i k m e. F .written i k m (sym (write-still i) ∙ e);
           unwritten = λ i k m e u. F .unwritten i k m (sym (write-still i) ∙ e) u;
+          either = F .either;
         }
       where
         sum-still : isDone n (advanced q p) xr ≡ isDone n q xr
@@ -116,6 +117,7 @@ module _ (G : Group) (n x : ℕ) (q : Request) (R R′ : ℕ → G .carrier) (b 
           computed = λ f e. F .computed f (sym sum-still ∙ e);
           written = λ i k m e. writing i k m e (truth (eqb i p));
           unwritten = λ i k m e u. waiting i k m e u (truth (eqb i p));
+          either = λ i k m. old-or-new i k m (truth (eqb i p));
         }
       where
         sum-still : isDone n (advanced q (n + 2 + p)) xr ≡ isDone n q xr
@@ -124,10 +126,20 @@ module _ (G : Group) (n x : ℕ) (q : Request) (R R′ : ℕ → G .carrier) (b 
         write-still : (i : ℕ) → eqb i p ≡ false → isDone n (advanced q (n + 2 + p)) (wr i) ≡ isDone n q (wr i)
         write-still i t = still n q (n + 2 + p) (wr i) d (λ j. eqb-false i p t (omega arith))
 
+        -- position p is new, the others are as they were
+        here : (i : ℕ) → eqb i p ≡ true → changed (b .cell) p (b .new p) i ≡ R′ i
+        here i t = changed-same (b .cell) p (b .new p) i (eqb-true i p t) ∙ new ∙ ap R′ (sym (eqb-true i p t))
+
+        old-or-new : (i : ℕ) → i ≤ n → ¬ (i ≡ x) → (eqb i p ≡ true) ⊎ (eqb i p ≡ false)
+            → (changed (b .cell) p (b .new p) i ≡ R i) ⊎ (changed (b .cell) p (b .new p) i ≡ R′ i)
+        old-or-new i k m (inl t) = inr (here i t)
+        old-or-new i k m (inr t) =
+            let there = changed-other (b .cell) p (b .new p) i (eqb-false i p t) in
+            ⊎-map (λ f. there ∙ f) (λ f. there ∙ f) (F .either i k m)
+
         writing : (i : ℕ) → i ≤ n → ¬ (i ≡ x) → isDone n (advanced q (n + 2 + p)) (wr i) ≡ true → (eqb i p ≡ true) ⊎ (eqb i p ≡ false)
             → changed (b .cell) p (b .new p) i ≡ R′ i
-        writing i k m e (inl t) =
-            changed-same (b .cell) p (b .new p) i (eqb-true i p t) ∙ new ∙ ap R′ (sym (eqb-true i p t))
+        writing i k m e (inl t) = here i t
         writing i k m e (inr t) =
             changed-other (b .cell) p (b .new p) i (eqb-false i p t) ∙ F .written i k m (sym (write-still i t) ∙ e)
 
@@ -155,6 +167,7 @@ module _ (G : Group) (n x : ℕ) (q : Request) (R R′ : ℕ → G .carrier) (b 
           computed = λ f e. absurd (f g);
           written = λ i k m e. F .written i k m (sym (write-still i) ∙ e);
           unwritten = λ i k m e u. F .unwritten i k m (sym (write-still i) ∙ e) u;
+          either = F .either;
         }
       where
         write-still : (i : ℕ) → isDone n (advanced q (n + 1)) (wr i) ≡ isDone n q (wr i)
@@ -185,6 +198,7 @@ module _ (G : Group) (n x : ℕ) (q : Request) (R R′ : ℕ → G .carrier) (b 
           computed = λ f e. changed-same (b .new) n (total G n q b) n refl ∙ t;
           written = λ i k m e. F .written i k m (sym (write-still i) ∙ e);
           unwritten = λ i k m e u. F .unwritten i k m (sym (write-still i) ∙ e) u;
+          either = F .either;
         }
       where
         write-still : (i : ℕ) → isDone n (advanced q (n + 1)) (wr i) ≡ isDone n q (wr i)

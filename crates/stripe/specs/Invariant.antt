@@ -83,3 +83,5 @@ module _ (G : Group) where
     -- a working position holds the new row once it is written, and the old one before where that is certain
     pub written : (p : ℕ) → p ≤ n → ¬ (p ≡ x) → isDone n q (wr p) ≡ true → b .cell p ≡ R′ p
     pub unwritten : (p : ℕ) → p ≤ n → ¬ (p ≡ x) → isDone n q (wr p) ≡ false → Untouched n q p → b .cell p ≡ R p
+    -- at every moment it holds the old row or the new one, also after a fresh choice, which forgets what is written
+    pub either : (p : ℕ) → p ≤ n → ¬ (p ≡ x) → (b .cell p ≡ R p) ⊎ (b .cell p ≡ R′ p)

@@ -14,7 +14,8 @@ use Rattle.graph.specs.Choice.{choose}
 use Rattle.graph.specs.Order.{closed}
 use Rattle.record.specs.Asked.{fewIn, soundRecordIn}
 use Rattle.record.specs.Life.{isFree, unitsOf, chosenAt}
-use Rattle.record.specs.Sound.{legalRecord, legalChosen, rightGraph, rightSteps, lacksNone, rightCount, soundRecord}
+use Rattle.record.specs.Sound.{legalRecord, legalChosen, rightGraph, rightSteps, lacksNone, soundRecord}
+use Rattle.record.proofs.Clauses.{count-going}
 use Rattle.record.proofs.Record.is_sound.Statement.{statement}
 use Rattle.record.proofs.Record.is_sound.Tie as tie
 
@@ -152,7 +153,7 @@ returns-6 c =
     rw (few-at (b .before .before), busy b, legal (e .before .before), known e, right-graph g, wrong)
 
 returns-7 : tie.Need-returns-7
-unfolding soundRecordIn soundRecord rightSteps rightCount lacksNone
+unfolding soundRecordIn soundRecord rightSteps lacksNone
 returns-7 c =
     let k = c .before .before .before in
     let g = k .before .before in
@@ -163,11 +164,11 @@ returns-7 c =
     let j =
     judged-wanting (unitsOf (a .state)) (a .self .graph) (a .self .mask) (chosenAt (a .state) (a .self)) (a .self .done) (few-at (b .before .before))
     (sym (judge-test k) ∙ c .before .enum-told2 .given .1) in
-    rw (few-at (b .before .before), busy b, legal (e .before .before), known e, right-graph g, j .0, j .1)
+    rw (few-at (b .before .before), busy b, legal (e .before .before), known e, right-graph g, j .0, count-going (a .state) (a .self) (legal (e .before .before)), j .1)
     (c .right-count .ensures ∙ rw (b .before .before .before .units .ensures))
 
 returns-8 : tie.Need-returns-8
-unfolding soundRecordIn soundRecord rightSteps rightCount lacksNone
+unfolding soundRecordIn soundRecord rightSteps lacksNone
 returns-8 c =
     let k = c .before .before .before in
     let g = k .before .before in
@@ -178,7 +179,7 @@ returns-8 c =
     let j =
     judged-whole (unitsOf (a .state)) (a .self .graph) (a .self .mask) (chosenAt (a .state) (a .self)) (a .self .done) (few-at (b .before .before))
     (sym (judge-test k) ∙ c .before .enum-told3 .given .1) in
-    rw (few-at (b .before .before), busy b, legal (e .before .before), known e, right-graph g, j .0, j .1)
+    rw (few-at (b .before .before), busy b, legal (e .before .before), known e, right-graph g, j .0, count-going (a .state) (a .self) (legal (e .before .before)), j .1)
     (c .right-count2 .ensures ∙ rw (b .before .before .before .units .ensures))
 
 pub is-sound-spec : {M : Type 1} → statement M

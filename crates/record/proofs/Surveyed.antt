@@ -1,0 +1,350 @@
+-- A survey that is made record by record is the survey of the table, and what it tells of the table.
+-- Assumes nothing.
+use Prim.Native.Nat.{ℕ, zero, suc, _+_, _≤_, _<_}
+use mathlib.Core.Bool.{Bool, true, false, cond, not, _&&_, Bool·not-not}
+use mathlib.Core.List.{List}
+use mathlib.Core.Logic.{⊎-elim}
+use mathlib.Core.Path.{_≡_, refl, sym, ap, _∙_}
+use native.Mathlib.Numerals.{add-one}
+use native.Mathlib.Omega.{arith}
+use borrow.Author.Tests.{ltb-true, ltb-false, lt-ltb, le-ltb, leb-true, le-leb, eqb-true, eqb-false, eq-eqb, ne-eqb, not-true}
+use lib.Dec.{ltb, leb, eqb}
+use lib.ListN.{length, getD, set, List·getD-eq-default}
+use Rattle.terms.proofs.Lists.{length-tabulate, getD-tabulate, every-elim, every-intro}
+use Rattle.terms.proofs.Rows.{truth, and-left, and-right, and-both}
+use Rattle.terms.proofs.Sets.{allBelow-elim, allBelow-intro, allBelow-cong, lowest-le, lowest-is, lowest-none, lowest-holds, lowest-before}
+use Rattle.terms.specs.Lists.{tabulate, every, among}
+use Rattle.terms.specs.Sets.{allBelow, lowest}
+use Rattle.geometry.proofs.Lengths.{state-bounds}
+use Rattle.geometry.specs.Limits.{beyondState}
+use Rattle.geometry.specs.declared.State.{State}
+use Rattle.graph.proofs.Few.{few}
+use Rattle.graph.proofs.Rules.{both-ways}
+use Rattle.record.proofs.Clashes.{eqb-sym, apart-elim, apart-intro}
+use Rattle.record.proofs.Clauses.{open-not-free}
+use Rattle.record.proofs.Filling.{entry, entry-at, filling, filling-more, filling-is}
+use Rattle.record.proofs.Loops.{all-every}
+use Rattle.record.proofs.Same.{same-survey}
+use Rattle.record.proofs.Soundness.{sound-elim, sound-record}
+use Rattle.record.specs.Asked.{fewIn, noStripe, heldStripe, soundRecordIn}
+use Rattle.record.specs.Life.{free, isFree, isOpen, unitsOf}
+use Rattle.record.specs.Seen.{looksAtMany, toSee, started, heldBefore, stillSound, stillFree, seen, seenTo}
+use Rattle.record.specs.Sound.{soundRecord, clash, apart, sound, holds, held, lowestFree}
+use Rattle.record.specs.Survey.{looksAt, unseen, surveyOf, heldIn}
+use Rattle.record.specs.declared.Record.{Record}
+use Rattle.record.specs.declared.Survey.{Survey}
+
+-- ---- which tables are looked at
+
+pub record Looked (st : State) (n : ℕ) : Type 0 where
+  pub few-records : n ≤ 8
+  pub few-units : fewIn st ≡ true
+  pub few-stripes : st .stripes ≤ noStripe
+
+pub looked : (st : State) (n : ℕ) → looksAtMany st n ≡ true → Looked st n
+unfolding looksAtMany
+looked st n e =
+    let ab = and-left (leb n 8 && leb (st .cards) 8) (leb (st .stripes) 1024) e in
+    let c = leb-true (st .cards) 8 (and-right (leb n 8) (leb (st .cards) 8) ab) in
+    record {
+      few-records = leb-true n 8 (and-left (leb n 8) (leb (st .cards) 8) ab);
+      few-units = few (unitsOf st) (omega arith);
+      few-stripes = leb-true (st .stripes) 1024 (and-right (leb n 8 && leb (st .cards) 8) (leb (st .stripes) 1024) e);
+    }
+
+-- ---- one record
+
+-- the stripe that it holds tells whether it holds a stripe
+pub holds-stripe : (q : Record) (s : ℕ) → s < noStripe → eqb (heldStripe q) s ≡ holds s q
+unfolding heldStripe holds
+holds-stripe q s h = go (isOpen q)
+  where
+    go : (b : Bool) → eqb (cond b (q .stripe) noStripe) s ≡ (b && eqb (q .stripe) s)
+    go true = refl
+    go false = ne-eqb noStripe s (λ e. omega arith)
+
+held-free : heldStripe free ≡ noStripe
+unfolding heldStripe
+held-free = refl
+
+free-holds : (s : ℕ) → not (holds s free) ≡ true
+unfolding holds
+free-holds s = refl
+
+-- two records clash where the first is open, and the second holds its stripe
+clash-held : (r q : Record) → (isOpen r ≡ true → r .stripe < noStripe) → (isOpen r && eqb (heldStripe q) (r .stripe)) ≡ clash r q
+unfolding clash holds
+clash-held r q below = go (isOpen r) refl
+  where
+    go : (b : Bool) → isOpen r ≡ b → (b && eqb (heldStripe q) (r .stripe)) ≡ (b && isOpen q && eqb (r .stripe) (q .stripe))
+    go true o = holds-stripe q (r .stripe) (below o) ∙ ap (_&&_ (isOpen q)) (eqb-sym (q .stripe) (r .stripe))
+    go false o = refl
+
+-- none before i is one, or it does not matter
+any-of : (i : ℕ) (x : Bool) (p : ℕ → Bool) → not (x && not (allBelow i (λ j. not (p j)))) ≡ allBelow i (λ j. not (x && p j))
+any-of i true p = Bool·not-not (allBelow i (λ j. not (p j)))
+any-of i false p = sym (allBelow-intro i (λ j. true) (λ j h. refl))
+
+-- ---- the lowest number, as a loop finds it
+
+module _ (n : ℕ) (p : ℕ → Bool) where
+  -- the lowest of those below i, and n where there is none
+  unfoldable lowestTo : ℕ → ℕ
+  lowestTo i = cond (ltb (lowest i p) i) (lowest i p) n
+
+  lowest-more : (i : ℕ) → i < n → cond (p i && eqb (lowestTo i) n) i (lowestTo i) ≡ lowestTo (suc i)
+  unfolding lowestTo
+  lowest-more i h =
+      ⊎-elim
+      (λ a.
+      let b = ltb-true (lowest i p) i a in
+      let same : lowest (suc i) p ≡ lowest i p = lowest-is (suc i) p (lowest i p) (omega arith) (lowest-holds i p b) (lowest-before i p) in
+      rw (a, same, lt-ltb (lowest i p) (suc i) (omega arith), ne-eqb (lowest i p) n (λ q. omega arith)) (none-of (p i) (lowest i p)))
+      (λ a.
+      let b = ltb-false (lowest i p) i a in
+      let le = lowest-le i p in
+      let at : lowest i p ≡ i = omega arith in
+      let before : (j : ℕ) → j < i → p j ≡ false = λ j k. lowest-before i p j (omega arith) in
+      rw (a, eq-eqb n n refl) (at-last (p i) refl before))
+      (truth (ltb (lowest i p) i))
+    where
+      none-of : (b : Bool) (x : ℕ) → cond (b && false) i x ≡ x
+      none-of true x = refl
+      none-of false x = refl
+
+      at-last : (b : Bool) → p i ≡ b → ((j : ℕ) → j < i → p j ≡ false) → cond (b && true) i n ≡ cond (ltb (lowest (suc i) p) (suc i)) (lowest (suc i) p) n
+      at-last true q before = rw (lowest-is (suc i) p i (omega arith) q before, lt-ltb i (suc i) (omega arith))
+      at-last false q before =
+          let none : lowest (suc i) p ≡ suc i =
+          lowest-none (suc i) p
+          (λ j k. ⊎-elim (λ x. ap p (eqb-true j i x) ∙ q) (λ x. before j (omega (arith, eqb-false j i x))) (truth (eqb j i))) in
+          rw (none, le-ltb (suc i) (suc i) (omega arith))
+
+  -- at the end it is the lowest of all
+  lowest-end : lowestTo n ≡ lowest n p
+  unfolding lowestTo
+  lowest-end =
+      ⊎-elim (λ a. rw a)
+      (λ a.
+      let b = ltb-false (lowest n p) n a in
+      let le = lowest-le n p in
+      let at : n ≡ lowest n p = omega arith in
+      rw a at)
+      (truth (ltb (lowest n p) n))
+
+-- ---- the survey, record by record
+
+module _ (st : State) (l : List Record) where
+  abbrev rec : ℕ → Record
+  rec i = getD l i free
+
+  -- record i is sound, and clashes with none before it
+  unfoldable fits : ℕ → Bool
+  fits i = soundRecord st (rec i) && allBelow i (λ j. not (clash (rec i) (rec j)))
+
+  -- every record fits where the table is sound
+  all-fit : allBelow (length l) fits ≡ sound st l
+  unfolding fits sound
+  all-fit =
+      both-ways (allBelow (length l) fits) (every (soundRecord st) l && apart l)
+      (λ e.
+      let f = allBelow-elim (length l) fits e in
+      and-both (every (soundRecord st) l) (apart l)
+      (every-intro (soundRecord st) l free (λ i h. and-left (soundRecord st (rec i)) (allBelow i (λ j. not (clash (rec i) (rec j)))) (f i h)))
+      (apart-intro l
+      (λ i j h k.
+      not-true (clash (rec i) (rec j))
+      (allBelow-elim i (λ j. not (clash (rec i) (rec j))) (and-right (soundRecord st (rec i)) (allBelow i (λ j. not (clash (rec i) (rec j)))) (f i h)) j k))))
+      (λ e.
+      allBelow-intro (length l) fits
+      (λ i h.
+      and-both (soundRecord st (rec i)) (allBelow i (λ j. not (clash (rec i) (rec j))))
+      (every-elim (soundRecord st) l i free (and-left (every (soundRecord st) l) (apart l) e) h)
+      (allBelow-intro i (λ j. not (clash (rec i) (rec j)))
+      (λ j k. ap not (apart-elim l (and-right (every (soundRecord st) l) (apart l) e) i j h (omega arith) (λ q. omega arith))))))
+
+  -- what is known after the first i records
+  unfoldable surveyTo : ℕ → Survey
+  surveyTo i = record {
+    len = length l;
+    sound = allBelow i fits;
+    held = filling 8 (λ k. heldStripe (rec k)) noStripe i;
+    free = lowestTo (length l) (λ k. isFree (rec k)) i;
+  }
+
+  module _ (looks : looksAtMany st (length l) ≡ true) where
+    abbrev of-table : Looked st (length l)
+    of-table = looked st (length l) looks
+
+    held-passed : (i s : ℕ) → i ≤ 8 → heldBefore (surveyTo i) s i ≡ not (allBelow i (λ j. not (eqb (heldStripe (rec j)) s)))
+    unfolding heldBefore surveyTo filling
+    held-passed i s h =
+        ap not
+        (allBelow-cong i (λ j. not (eqb (getD (tabulate 8 (entry (λ k. heldStripe (rec k)) noStripe i)) j 0) s)) (λ j. not (eqb (heldStripe (rec j)) s))
+        (λ j k.
+        ap (λ (x : ℕ). not (eqb x s))
+        (getD-tabulate 8 (entry (λ k. heldStripe (rec k)) noStripe i) j 0 (omega arith) ∙ entry-at (λ k. heldStripe (rec k)) noStripe i j k)))
+
+    -- one more record fits
+    sound-more : (i : ℕ) → i ≤ 8 → stillSound st (surveyTo i) i (rec i) ≡ surveyTo (suc i) .sound
+    unfolding stillSound soundRecordIn allBelow fits surveyTo
+    sound-more i h = ap (_&&_ (allBelow i fits)) (rw (of-table .few-units) (go (soundRecord st (rec i)) refl))
+      where
+        go : (b : Bool) → soundRecord st (rec i) ≡ b
+            → (b && not (isOpen (rec i) && heldBefore (surveyTo i) (rec i .stripe) i)) ≡ (b && allBelow i (λ j. not (clash (rec i) (rec j))))
+        go false e = refl
+        go true e =
+            ap (λ (b : Bool). not (isOpen (rec i) && b)) (held-passed i (rec i .stripe) h)
+            ∙ any-of i (isOpen (rec i)) (λ j. eqb (heldStripe (rec j)) (rec i .stripe))
+            ∙ allBelow-cong i (λ j. not (isOpen (rec i) && eqb (heldStripe (rec j)) (rec i .stripe))) (λ j. not (clash (rec i) (rec j)))
+            (λ j k.
+            ap not
+            (clash-held (rec i) (rec j)
+            (λ o.
+            let b = sound-elim st (rec i) e (open-not-free (rec i) o) .in-array in
+            let s = of-table .few-stripes in
+            omega arith)))
+
+    same-len : (i : ℕ) → surveyTo i .len ≡ surveyTo (suc i) .len
+    unfolding surveyTo
+    same-len i = refl
+
+    held-more : (i : ℕ) → i < 8 → set (surveyTo i .held) i (heldStripe (rec i)) ≡ surveyTo (suc i) .held
+    unfolding surveyTo
+    held-more i h = rw (← add-one i) (filling-more 8 (λ k. heldStripe (rec k)) noStripe i h)
+
+    free-more : (i : ℕ) → i < length l → stillFree (surveyTo i) i (rec i) ≡ surveyTo (suc i) .free
+    unfolding surveyTo stillFree
+    free-more i h = lowest-more (length l) (λ k. isFree (rec k)) i h
+
+    seen-more : (i : ℕ) → i < length l → seen st (surveyTo i) i (rec i) ≡ surveyTo (suc i)
+    unfolding seen
+    seen-more i h =
+        let b = of-table .few-records in
+        rw (lt-ltb i 8 (omega arith))
+        (same-survey _ (surveyTo (suc i)) (same-len i) (sound-more i (omega arith)) (held-more i (omega arith)) (free-more i h))
+
+    at-first : started st (length l) ≡ surveyTo zero
+    unfolding started surveyTo allBelow filling entry tabulate lowestTo lowest
+    at-first = rw looks
+
+    to-more : (i : ℕ) → i ≤ length l → seenTo st l i ≡ surveyTo i
+    unfolding seenTo
+    to-more zero h = at-first
+    to-more (suc i) h = rw (to-more i (omega arith)) (seen-more i (omega arith))
+
+    -- past the end no stripe is held
+    held-end : filling 8 (λ k. heldStripe (rec k)) noStripe (length l) ≡ tabulate 8 (λ k. heldStripe (rec k))
+    held-end =
+        filling-is 8 (length l) (λ k. heldStripe (rec k)) noStripe (λ k. heldStripe (rec k)) (λ k a b. refl)
+        (λ k a b. sym (ap heldStripe (List·getD-eq-default l free {n = k} b) ∙ held-free))
+
+    to-end : surveyTo (length l) ≡ record { len = length l; sound = sound st l; held = tabulate 8 (λ k. heldStripe (rec k)); free = lowestFree l }
+    unfolding surveyTo lowestFree
+    to-end = same-survey _ _ refl all-fit held-end (lowest-end (length l) (λ k. isFree (rec k)))
+
+pub looks-many : (st : State) (l : List Record) → looksAt st l ≡ looksAtMany st (length l)
+unfolding looksAt looksAtMany
+looks-many st l = refl
+
+-- a table of the state's length is looked at where the state is within its limits
+pub looks-within : (st : State) (l : List Record) → beyondState st ≡ false → length l ≡ st .records → looksAt st l ≡ true
+unfolding looksAt
+looks-within st l e h =
+    let b = state-bounds st e in
+    rw (le-leb (length l) 8 (omega (arith, b .records-high)), le-leb (st .cards) 8 (b .cards-high), le-leb (st .stripes) 1024 (b .stripes-high))
+
+not-seen : (st : State) (l : List Record) → looksAtMany st (length l) ≡ false → seenTo st l 0 ≡ unseen (length l)
+unfolding seenTo started unseen
+not-seen st l e = rw e
+
+-- all are looked at, or none
+to-see : (st : State) (n : ℕ) (b : Bool) → looksAtMany st n ≡ b → toSee st n ≡ cond b n 0
+unfolding toSee
+to-see st n b e = rw e
+
+of-all : (st : State) (l : List Record) → looksAt st l ≡ true
+    → surveyOf st l ≡ record { len = length l; sound = sound st l; held = tabulate 8 (λ k. heldStripe (getD l k free)); free = lowestFree l }
+unfolding surveyOf
+of-all st l e = rw e
+
+of-none : (st : State) (l : List Record) → looksAt st l ≡ false → surveyOf st l ≡ unseen (length l)
+unfolding surveyOf
+of-none st l e = rw e
+
+-- a survey made record by record is the survey of the table
+pub survey-is : (st : State) (l : List Record) → seenTo st l (toSee st (length l)) ≡ surveyOf st l
+survey-is st l =
+    ⊎-elim
+    (λ e.
+    ap (seenTo st l) (to-see st (length l) true e)
+    ∙ to-more st l e (length l) (omega arith)
+    ∙ to-end st l e
+    ∙ sym (of-all st l (looks-many st l ∙ e)))
+    (λ e. ap (seenTo st l) (to-see st (length l) false e) ∙ not-seen st l e ∙ sym (of-none st l (looks-many st l ∙ e)))
+    (truth (looksAtMany st (length l)))
+
+-- one record more
+pub seen-next : (st : State) (l : List Record) (i : ℕ) → seen st (seenTo st l i) i (getD l i free) ≡ seenTo st l (i + 1)
+unfolding seenTo
+seen-next st l i = rw (add-one i)
+
+pub to-see-most : (st : State) (n : ℕ) → (toSee st n ≤ n) × (toSee st n ≤ 8)
+unfolding toSee
+to-see-most st n =
+    ⊎-elim (λ e. let b = looked st n e .few-records in rw e (omega arith, b)) (λ e. rw e (omega arith, omega arith)) (truth (looksAtMany st n))
+
+-- ---- what the survey of a table tells
+
+module _ (st : State) (l : List Record) where
+  pub survey-len : surveyOf st l .len ≡ length l
+  unfolding surveyOf unseen
+  survey-len = ⊎-elim (λ e. rw e) (λ e. rw e) (truth (looksAt st l))
+
+  module _ (looks : looksAt st l ≡ true) where
+    pub survey-sound : surveyOf st l .sound ≡ sound st l
+    unfolding surveyOf
+    survey-sound = rw looks
+
+    pub survey-free : surveyOf st l .free ≡ lowestFree l
+    unfolding surveyOf
+    survey-free = rw looks
+
+    -- it holds the stripes that an open request holds
+    pub survey-held : (s : ℕ) → s < noStripe → heldIn (surveyOf st l) s ≡ held l s
+    unfolding surveyOf heldIn among held
+    survey-held s h =
+        rw looks
+        (ap not
+        (both-ways (every (λ a. not (eqb a s)) eight) (every (λ r. not (holds s r)) l)
+        (λ e.
+        every-intro (λ r. not (holds s r)) l free
+        (λ i k. sym (at i (omega (arith, small))) ∙ every-elim (λ a. not (eqb a s)) eight i 0 e (omega (arith, small, length-tabulate 8 (λ i. heldStripe (getD l i free))))))
+        (λ e.
+        every-intro (λ a. not (eqb a s)) eight 0
+        (λ i k.
+        at i (omega (arith, length-tabulate 8 (λ i. heldStripe (getD l i free))))
+        ∙ ⊎-elim (λ a. every-elim (λ r. not (holds s r)) l i free e (ltb-true i (length l) a))
+        (λ a. ap (λ (r : Record). not (holds s r)) (List·getD-eq-default l free {n = i} (ltb-false i (length l) a)) ∙ free-holds s)
+        (truth (ltb i (length l)))))))
+      where
+        eight : List ℕ
+        eight = tabulate 8 (λ i. heldStripe (getD l i free))
+
+        small : length l ≤ 8
+        small = looked st (length l) (sym (looks-many st l) ∙ looks) .few-records
+
+        at : (i : ℕ) → i < 8 → not (eqb (getD eight i 0) s) ≡ not (holds s (getD l i free))
+        at i k =
+            ap (λ (x : ℕ). not (eqb x s)) (getD-tabulate 8 (λ i. heldStripe (getD l i free)) i 0 k)
+            ∙ ap not (holds-stripe (getD l i free) s h)
+
+-- a record of a sound table is sound, so that testing it too changes nothing
+pub sound-both : (st : State) (l : List Record) (i : ℕ) → (sound st l && soundRecord st (getD l i free)) ≡ sound st l
+sound-both st l i = ⊎-elim (λ e. and-both (sound st l) (soundRecord st (getD l i free)) e (sound-record st l e i) ∙ sym e) (λ e. rw e) (truth (sound st l))
+
+-- all eight are asked where there are eight
+pub held-eight : (v : Survey) (s : ℕ) → length (v .held) ≡ 8 → heldBefore v s 8 ≡ heldIn v s
+unfolding heldBefore heldIn among
+held-eight v s e =
+    ap not (ap (λ (n : ℕ). allBelow n (λ j. not (eqb (getD (v .held) j 0) s))) (sym e) ∙ all-every (λ a. not (eqb a s)) (v .held) 0)
