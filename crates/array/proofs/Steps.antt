@@ -18,17 +18,11 @@ use Rattle.graph.specs.Sums.{sumsToRead}
 use Rattle.parity.specs.Parity.{byteAt}
 use Rattle.record.specs.Life.{unitsOf, chosenAt}
 use Rattle.record.specs.declared.Record.{Record}
+use Rattle.array.specs.Premises.{Within}
 use Rattle.array.specs.Stepping.{cellOf, sumByte, sumAt, workAfter, imageAfter}
 use Rattle.array.proofs.Frames.{newByte, gotByte, cell-put-length, cell-put-same, cell-put-other}
 use Rattle.array.proofs.Frames.{got-put-length, got-put-same, got-put-other, got-put-new}
 use Rattle.array.proofs.Frames.{new-put-length, new-put-same, new-put-other, new-put-got}
-
--- a step's position is one of the stripe's
-abbrev pub Within : ℕ → Step → Type 0
-Within N (rd p) = p < N
-Within N xr = Unit {0}
-Within N (wr p) = p < N
-Within N nil = Unit {0}
 
 -- what a step stands on: the image and the work store have their lengths, record i, which is r, and its stripe are in range, and X, where
 -- the exclusive or is of X, is one of the stripe's positions

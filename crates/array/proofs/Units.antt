@@ -14,9 +14,10 @@ use Rattle.terms.specs.Sets.{bit}
 use Rattle.terms.proofs.Lists.{length-put, length-part}
 use Rattle.block.specs.Blocks.{carried}
 use Rattle.block.proofs.Carried.{carried-whole}
-use Rattle.geometry.specs.Asked.{writeIn, readIn}
+use Rattle.geometry.specs.Store.{writeAt, readAt}
 use Rattle.geometry.specs.declared.State.{State}
-use Rattle.geometry.proofs.Asked.{BoundsOf, Inside, writeIn-is, readIn-is, writeIn-inside, readIn-inside}
+use Rattle.geometry.proofs.Apart.{write-inside, read-inside}
+use Rattle.geometry.proofs.Asked.{BoundsOf}
 use Rattle.geometry.proofs.Bounds.{legal-bounds}
 use Rattle.record.specs.Life.{unitsOf}
 use Rattle.array.specs.Admission.{keepUnit}
@@ -41,9 +42,6 @@ module _ (st : State) (i mask : ℕ) (units work : List ℕ) (k : Keeping st i m
   pub keeping-bounds : BoundsOf st
   keeping-bounds = legal-bounds (st .cards) (st .stripes) (st .block) (st .records) (k .limits)
 
-  inside : (u : ℕ) → u < unitsOf st → Inside st i (st .records) u (st .cards)
-  inside u h = record { bounds = keeping-bounds; first = k .record-below; second = omega arith }
-
   -- a masked unit's place among the bytes of the units has room for it
   pub keep-room : (f : ℕ → List ℕ → List ℕ) (l₀ l : List ℕ) (place u : ℕ) → Turned (unitsOf st) (st .block) mask f l₀ l place u
       → bit u mask ≡ true → place + st .block ≤ length units
@@ -52,15 +50,15 @@ module _ (st : State) (i mask : ℕ) (units work : List ℕ) (k : Keeping st i m
 
   -- a turn that keeps a unit of the payload
   pub keep-more : (w : List ℕ) (from u : ℕ) → Turned (unitsOf st) (st .block) mask (keepUnit st i mask units) work w from u → u < unitsOf st
-      → bit u mask ≡ true → (w′ : List ℕ) (at : ℕ) → at ≡ writeIn st i u → w′ ≡ carried w at units from (st .block)
+      → bit u mask ≡ true → (w′ : List ℕ) (at : ℕ) → at ≡ writeAt (st .cards) (st .block) i u → w′ ≡ carried w at units from (st .block)
       → Turned (unitsOf st) (st .block) mask (keepUnit st i mask units) work w′ (from + st .block) (u + 1)
   keep-more w from u t h e w′ at at-is moved =
-      let room = writeIn-inside st i u (inside u h) in
+      let room = write-inside (st .cards) (st .block) (st .records) i u (k .record-below) (omega arith) in
       let fits : at + st .block ≤ length w = omega (arith, ap length (t .changed), t .as-long, k .work-right) in
       let source = keep-room (keepUnit st i mask units) work w from u t e in
       let whole = carried-whole w at units from (st .block) fits source in
       turned-more (unitsOf st) (st .block) mask (keepUnit st i mask units) work w w′ from u t h e
-      (moved ∙ whole ∙ sym (rw e (ap₂ (λ (a f : ℕ). put a (part f (st .block) units) w) (sym (at-is ∙ writeIn-is st i u (inside u h))) (sym (t .at-rank)))))
+      (moved ∙ whole ∙ sym (rw e (ap₂ (λ (a f : ℕ). put a (part f (st .block) units) w) (sym at-is) (sym (t .at-rank)))))
       (ap length moved ∙ carried-long w at units from (st .block) fits source)
 
   pub keep-pass : (w : List ℕ) (from u : ℕ) → Turned (unitsOf st) (st .block) mask (keepUnit st i mask units) work w from u → u < unitsOf st
@@ -69,16 +67,16 @@ module _ (st : State) (i mask : ℕ) (units work : List ℕ) (k : Keeping st i m
 
   -- a turn that hands a read unit over to the result buffer, which the units are here
   pub hand-more : (l : List ℕ) (place u : ℕ) → Turned (unitsOf st) (st .block) mask (handUnit st i mask work) units l place u → u < unitsOf st
-      → bit u mask ≡ true → (l′ : List ℕ) (at : ℕ) → at ≡ readIn st i u → l′ ≡ carried l place work at (st .block)
+      → bit u mask ≡ true → (l′ : List ℕ) (at : ℕ) → at ≡ readAt (st .cards) (st .block) i u → l′ ≡ carried l place work at (st .block)
       → Turned (unitsOf st) (st .block) mask (handUnit st i mask work) units l′ (place + st .block) (u + 1)
   hand-more l place u t h e l′ at at-is moved =
-      let room = readIn-inside st i u (inside u h) in
+      let room = read-inside (st .cards) (st .block) (st .records) i u (k .record-below) (omega arith) in
       let source : at + st .block ≤ length work = omega (arith, k .work-right) in
       let fits : place + st .block ≤ length l =
       omega (arith, t .as-long, keep-room (handUnit st i mask work) units l place u t e) in
       let whole = carried-whole l place work at (st .block) fits source in
       turned-more (unitsOf st) (st .block) mask (handUnit st i mask work) units l l′ place u t h e
-      (moved ∙ whole ∙ sym (rw e (ap₂ (λ (p a : ℕ). put p (part a (st .block) work) l) (sym (t .at-rank)) (sym (at-is ∙ readIn-is st i u (inside u h))))))
+      (moved ∙ whole ∙ sym (rw e (ap₂ (λ (p a : ℕ). put p (part a (st .block) work) l) (sym (t .at-rank)) (sym at-is))))
       (ap length moved ∙ carried-long l place work at (st .block) fits source)
 
   pub hand-pass : (l : List ℕ) (place u : ℕ) → Turned (unitsOf st) (st .block) mask (handUnit st i mask work) units l place u → u < unitsOf st

@@ -11,7 +11,7 @@ use Rattle.graph.specs.Steps.{Step, rd, xr, wr, nil, stepOf}
 use Rattle.geometry.specs.declared.State.{State}
 use Rattle.record.specs.declared.Record.{Record}
 use Rattle.array.specs.Stepping.{workAfter, imageAfter}
-use Rattle.array.proofs.Steps.{Within}
+use Rattle.array.specs.Premises.{Within}
 
 pub step-within : (N k : ℕ) → 0 < N → Within N (stepOf (N - 1) k)
 unfolding stepOf

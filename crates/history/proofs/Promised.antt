@@ -26,7 +26,7 @@ use Rattle.array.proofs.Admissions.{admit-lently, admit-passed}
 use Rattle.array.proofs.Collections.{collectNumber, collect-lently, collect-granted, collect-passed}
 use Rattle.array.proofs.Lent.{Lently}
 use Rattle.array.proofs.Reports.{report-lently}
-use Rattle.array.proofs.Scans.{scan-lently}
+use Rattle.array.proofs.Scannings.{scan-lently}
 use Rattle.array.proofs.Steppings.{step-lently, step-granted, step-passed}
 use Rattle.array.proofs.Rank.{rank-all}
 use Rattle.array.specs.Collection.{handOver}

@@ -15,8 +15,8 @@ use Rattle.array.proofs.Admissions.{admitNumber}
 use Rattle.array.proofs.Collections as collections
 use Rattle.array.proofs.Collections.{collectNumber}
 use Rattle.array.proofs.Reports as reports
-use Rattle.array.proofs.Scans as scans
-use Rattle.array.proofs.Scans.{scanNumber}
+use Rattle.array.proofs.Scannings as scans
+use Rattle.array.proofs.Scannings.{scanNumber}
 use Rattle.array.proofs.Steppings as steppings
 use Rattle.array.proofs.Steppings.{stepNumber}
 use Rattle.array.specs.Admission.{keepUnits}

@@ -24,7 +24,7 @@ use Rattle.geometry.specs.declared.State.{State}
 use Rattle.parity.specs.Parity.{parityByte}
 use Rattle.record.specs.Life.{unitsOf}
 use Rattle.record.specs.Sound.{held}
-use Rattle.array.proofs.Scans.{scan-granted}
+use Rattle.array.proofs.Scannings.{scan-granted}
 use Rattle.stripe.proofs.Bytes.{sum-xor}
 use Rattle.stripe.specs.Invariant.{IsRow}
 use Rattle.history.specs.Account.{Account}
