@@ -2,28 +2,26 @@
 -- Assumes nothing.
 use Prim.Native.Nat.{ℕ, _<_}
 use mathlib.Core.Bool.{Bool, true, false, cond}
-use mathlib.Core.List.{List, []}
+use mathlib.Core.List.{List}
 use mathlib.Core.Logic.{_⊎_, inl, inr}
-use mathlib.Core.Path.{_≡_, refl, sym, ap, _∙_}
+use mathlib.Core.Path.{_≡_, refl, sym, _∙_}
 use native.Mathlib.Omega.{arith}
-use borrow.Author.Tests.{eqb-true}
+use borrow.Author.Tests.{eqb-true, eqb-false}
 use lib.Dec.{eqb}
-use Rattle.terms.specs.Reply.{refused}
 use Rattle.terms.proofs.Rows.{truth}
 use Rattle.geometry.proofs.Bounds.{Bounds, within-limits}
 use Rattle.geometry.specs.Limits.{geometryOf, none, beyondState}
 use Rattle.geometry.proofs.Missing.{none-missing}
 use Rattle.geometry.specs.Placement.{outIn}
-use Rattle.geometry.specs.Report.{reporting, reportRefusal, marked, withOut, withLost}
+use Rattle.geometry.specs.Report.{reportRefusal, marked, withOut, withLost}
 use Rattle.geometry.specs.declared.State.{State}
 use Rattle.graph.specs.Steps.{stepOf}
 use Rattle.record.specs.Life.{unitsOf, chosenAt, missingIn}
 use Rattle.record.specs.declared.Record.{Record}
 use Rattle.array.proofs.Passed.{Ready, step-passed, passed}
 use Rattle.array.proofs.Steps.{Within}
-use Rattle.array.specs.Admission.{Admission, admission}
-use Rattle.array.specs.Refusals.{stepRefusal, stepReady}
-use Rattle.array.specs.Stepping.{Stepping, meetsOut, accepting, stepping}
+use Rattle.array.specs.Refusals.{admitRefusal, stepRefusal, stepReady}
+use Rattle.array.specs.Stepping.{Stepping, meetsOut, accepting}
 use Rattle.stripe.proofs.Readied.{readied}
 use Rattle.history.specs.Answers.{answerTo, Alike}
 use Rattle.history.specs.History.{Decayed}
@@ -31,6 +29,7 @@ use Rattle.history.specs.World.{World, Event, admit, step, report, colle
 use Rattle.history.proofs.Calls.{work-same, image-same}
 use Rattle.history.proofs.Facts.{bounds, open-fits}
 use Rattle.geometry.proofs.Placing.{placed-in}
+use Rattle.history.proofs.Replies.{admit-taken, step-taken, report-taken, admit-left, step-left, report-left}
 use Rattle.history.proofs.Scans.{scan-same}
 use Rattle.history.proofs.Step.{kind-within}
 use Rattle.record.proofs.Clauses.{Fit}
@@ -61,19 +60,21 @@ module _ (w : World) (image′ : List ℕ) (same : Decayed (w .state) (w .image)
   Both e = (answerTo v e ≡ answerTo w e) × Alike (play w e .world) (play v e .world)
 
   admit-both : (write : Bool) (s mask : ℕ) (payload : List ℕ) → Both (admit write s mask payload)
-  unfolding play
-  admit-both write s mask payload = (
-    ap (λ (a : Admission). record { reply = a .reply; result = [] }) equal,
-    record {
-      same-state = refl;
-      same-table = ap (λ (a : Admission). a .table) equal;
-      same-work = ap (λ (a : Admission). a .work) equal;
-      same-image = same;
-    },
-  )
+  admit-both write s mask payload = go (truth (eqb number 0))
     where
-      equal : admission (w .state) (w .table) (w .work) image′ write s mask payload ≡ admission (w .state) (w .table) (w .work) (w .image) write s mask payload
-      equal = unfold admission in rw (admit-same (w .state) (w .image) image′ same (w .table) (w .work) write s mask payload)
+      number : ℕ
+      number = admitRefusal (w .state) (w .table) (w .work) (w .image) write s mask payload
+
+      also : admitRefusal (w .state) (w .table) (w .work) image′ write s mask payload ≡ number
+      also = admit-same (w .state) (w .image) image′ same (w .table) (w .work) write s mask payload
+
+      go : (eqb number 0 ≡ true) ⊎ (eqb number 0 ≡ false) → Both (admit write s mask payload)
+      go (inl e) =
+          let ok = eqb-true number 0 e in
+          rw (admit-taken w write s mask payload ok, admit-taken v write s mask payload (also ∙ ok)) (refl, record { same-state = refl; same-table = refl; same-work = refl; same-image = same })
+      go (inr e) =
+          let d = eqb-false number 0 e in
+          rw (admit-left w write s mask payload d, admit-left v write s mask payload (λ z. d (sym also ∙ z)), also) (refl, record { same-state = refl; same-table = refl; same-work = refl; same-image = same })
 
   collect-both : (i : ℕ) (result : List ℕ) → Both (collect i result)
   unfolding play
@@ -106,22 +107,30 @@ module _ (w : World) (image′ : List ℕ) (same : Decayed (w .state) (w .image)
 
   -- a report alters the state, of both alike
   report-both : (c : ℕ) → Both (report c)
-  unfolding play reporting marked
-  report-both c = (
-    refl,
-    record {
-      same-state = refl;
-      same-table = refl;
-      same-work = refl;
-      same-image = go (eqb (reportRefusal (w .state) c) 0) refl (eqb (w .state .out) none) refl;
-    },
-  )
+  report-both c = go (truth (eqb number 0))
     where
-      go : (t : Bool) → eqb (reportRefusal (w .state) c) 0 ≡ t → (o : Bool) → eqb (w .state .out) none ≡ o
-          → Decayed (cond t (cond o (withOut (w .state) c) (withLost (w .state))) (w .state)) (w .image) image′
-      go true e true o = out-same c (eqb-true (reportRefusal (w .state) c) 0 e) (eqb-true (w .state .out) none o)
-      go true e false o = lost-same
-      go false e o f = same
+      number : ℕ
+      number = reportRefusal (w .state) c
+
+      marked-same : number ≡ 0 → (o : Bool) → eqb (w .state .out) none ≡ o → Decayed (cond o (withOut (w .state) c) (withLost (w .state))) (w .image) image′
+      marked-same ok true o = out-same c ok (eqb-true (w .state .out) none o)
+      marked-same ok false o = lost-same
+
+      go : (eqb number 0 ≡ true) ⊎ (eqb number 0 ≡ false) → Both (report c)
+      go (inl e) =
+          let ok = eqb-true number 0 e in
+          rw (report-taken w c ok, report-taken v c ok) (
+            refl,
+            record {
+              same-state = refl;
+              same-table = refl;
+              same-work = refl;
+              same-image = unfold marked in marked-same ok (eqb (w .state .out) none) refl;
+            },
+          )
+      go (inr e) =
+          let d = eqb-false number 0 e in
+          rw (report-left w c d, report-left v c d) (refl, record { same-state = refl; same-table = refl; same-work = refl; same-image = same })
 
   -- ---- a step
 
@@ -177,31 +186,26 @@ module _ (w : World) (image′ : List ℕ) (same : Decayed (w .state) (w .image)
                   (stepOf n k) within (ok .record-below) (ok .right .work-right);
             })
 
-    stepping-same : Same (stepping (w .state) (w .table) (w .work) (w .image) i k) (stepping (w .state) (w .table) (w .work) image′ i k)
-    unfolding stepping
-    stepping-same = rw (step-same (w .state) (w .image) image′ same (w .table) (w .work) i k) (go (truth (eqb number 0)))
+    step-both : Both (step i k)
+    step-both = go (truth (eqb number 0))
       where
         number : ℕ
         number = stepRefusal (w .state) (w .table) (w .work) (w .image) i k
 
-        go : (eqb number 0 ≡ true) ⊎ (eqb number 0 ≡ false)
-            → Same
-            (cond (eqb number 0) (accepting (w .state) (w .table) (w .work) (w .image) i r k) (record { reply = refused number; table = w .table; work = w .work; image = w .image }))
-            (cond (eqb number 0) (accepting (w .state) (w .table) (w .work) image′ i r k) (record { reply = refused number; table = w .table; work = w .work; image = image′ }))
-        go (inl e) = rw e (accepted-same (step-passed (w .state) (w .table) (w .work) (w .image) i k (eqb-true number 0 e)))
-        go (inr e) = rw e (record { same-reply = refl; same-table = refl; same-work = refl; same-image = same })
+        also : stepRefusal (w .state) (w .table) (w .work) image′ i k ≡ number
+        also = step-same (w .state) (w .image) image′ same (w .table) (w .work) i k
 
-    step-both : Both (step i k)
-    unfolding play
-    step-both = (
-      rw (stepping-same .same-reply),
-      record {
-        same-state = refl;
-        same-table = stepping-same .same-table;
-        same-work = stepping-same .same-work;
-        same-image = stepping-same .same-image;
-      },
-    )
+        go : (eqb number 0 ≡ true) ⊎ (eqb number 0 ≡ false) → Both (step i k)
+        go (inl e) =
+            let ok = eqb-true number 0 e in
+            let made = accepted-same (step-passed (w .state) (w .table) (w .work) (w .image) i k ok) in
+            rw (step-taken w i k ok, step-taken v i k (also ∙ ok)) (
+              rw (made .same-reply),
+              record { same-state = refl; same-table = made .same-table; same-work = made .same-work; same-image = made .same-image },
+            )
+        go (inr e) =
+            let d = eqb-false number 0 e in
+            rw (step-left w i k d, step-left v i k (λ z. d (sym also ∙ z)), also) (refl, record { same-state = refl; same-table = refl; same-work = refl; same-image = same })
 
   pub both : (e : Event) → Both e
   both (admit write s mask payload) = admit-both write s mask payload

@@ -3,7 +3,7 @@
 -- Assumes nothing.
 use Prim.Native.Nat.{ℕ}
 use mathlib.Core.Bool.{Bool, true, false, cond}
-use mathlib.Core.List.{List, [], _∷_, _++_}
+use mathlib.Core.List.{List, [], _∷_}
 use mathlib.Core.Logic.{_⊎_, inl, inr}
 use mathlib.Core.Path.{_≡_, refl, sym, ap, _∙_}
 use native.Mathlib.Omega.{arith}
@@ -22,6 +22,26 @@ use Rattle.history.specs.History.{History, opened, next, decayed, opened
 use Rattle.history.specs.World.{World, Event, admit, step, report, collect, scan, Outcome, Engine, play}
 use Rattle.history.proofs.Opened.{open-passed, open-state}
 use Rattle.history.proofs.Replies.{report-number, report-taken, refused-leaves}
+
+-- ---- what a report notes
+
+-- an accepted report is of another card than the one that is out, so it notes what report marks
+pub another : (st : State) (c : ℕ) → reportRefusal st c ≡ 0 → ¬ (c ≡ st .out)
+unfolding reportRefusal
+another st c e =
+    let a = passed (beyondState st) 0 _ e in
+    let b = passed (isLost st) 3 _ (a .1) in
+    let d = passed (leb (st .cards) c) 4 _ (b .1) in
+    eqb-false c (st .out) (passed (eqb c (st .out)) 11 [] (d .1) .0)
+
+pub report-noted : (st : State) (c : ℕ) → reportRefusal st c ≡ 0 → reported st c ≡ marked st c
+unfolding reported marked
+report-noted st c ok = rw (ne-eqb c (st .out) (another st c ok))
+
+-- not lost: the mark is 0
+not-marked : (a : Account) → Whole a → a .state .lost ≡ 0
+unfolding Whole
+not-marked a whole = whole
 
 -- ---- what a call makes of the account's state
 
@@ -61,6 +81,9 @@ module _ (engine : Engine) (w : World) (a : Account) where
   unfolding Whole
   whole-call e whole = go (noted-state e)
     where
+      now : noted engine w a e .state .lost ≡ 0
+      now = not-marked (noted engine w a e) whole
+
       was : (c : ℕ) (o p : Bool) → cond o (withOut (a .state) c) (cond p (a .state) (withLost (a .state))) .lost ≡ 0 → a .state .lost ≡ 0
       was c true p z = z
       was c false true z = z
@@ -68,8 +91,8 @@ module _ (engine : Engine) (w : World) (a : Account) where
 
       go : ((c : ℕ) × Reports engine w a e c) ⊎ Reportless engine w a e → a .state .lost ≡ 0
       go (inl (c, r)) =
-          was c (eqb (a .state .out) none) (eqb c (a .state .out)) (unfold reported in (ap (λ (st : State). st .lost) (sym (r .state-noted)) ∙ whole))
-      go (inr r) = ap (λ (st : State). st .lost) (sym (r .state-stays)) ∙ whole
+          was c (eqb (a .state .out) none) (eqb c (a .state .out)) (unfold reported in (ap (λ (st : State). st .lost) (sym (r .state-noted)) ∙ now))
+      go (inr r) = ap (λ (st : State). st .lost) (sym (r .state-stays)) ∙ now
 
   -- the array is lost by one thing only: an accepted report of a second, different card
   pub lost-by-report : (e : Event) → Whole a → ¬ Whole (noted engine w a e)
@@ -146,19 +169,6 @@ unfolding OneCard Whole
 one-card h (c, all) = only-kept c h all .not-lost
 
 -- ---- ours: the account's state is the world's
-
--- an accepted report is of another card than the one that is out, so it notes what report marks
-pub another : (st : State) (c : ℕ) → reportRefusal st c ≡ 0 → ¬ (c ≡ st .out)
-unfolding reportRefusal
-another st c e =
-    let a = passed (beyondState st) 0 _ e in
-    let b = passed (isLost st) 3 _ (a .1) in
-    let d = passed (leb (st .cards) c) 4 _ (b .1) in
-    eqb-false c (st .out) (passed (eqb c (st .out)) 11 [] (d .1) .0)
-
-pub report-noted : (st : State) (c : ℕ) → reportRefusal st c ≡ 0 → reported st c ≡ marked st c
-unfolding reported marked
-report-noted st c ok = rw (ne-eqb c (st .out) (another st c ok))
 
 module _ (w : World) (a : Account) (same : w .state ≡ a .state) where
   accepted-same : (e : Event) → play w e .reply .number ≡ 0 → play w e .world .state ≡ entered a e (play w e) .state

@@ -1,7 +1,7 @@
 -- Engines that do the work and cheat the client's books: each lies in the state or in the table, where an account that believed them would let
 -- it pass. Each breaks the promise in a run that is shown by computation.
 -- Assumes nothing.
-use Prim.Native.Nat.{ℕ, _+_, _*_, _≤_}
+use Prim.Native.Nat.{ℕ, _+_, _*_, _≤_, _<_}
 use mathlib.Core.Bool.{Bool, true, false, cond, _&&_}
 use mathlib.Core.List.{List, [], _∷_, _++_}
 use mathlib.Core.Path.{_≡_, refl, ap}
@@ -10,12 +10,12 @@ use lib.Dec.{eqb, ltb, leb, lit<}
 use lib.ListN.{getD, set, replicate}
 use Rattle.geometry.specs.Report.{withLost}
 use Rattle.geometry.specs.declared.State.{State}
-use Rattle.record.specs.Life.{free, isOpen, isFinished, isWrite, unitsOf}
+use Rattle.record.specs.Life.{free, isOpen, isFinished, unitsOf}
 use Rattle.record.specs.declared.Record.{Record}
-use Rattle.history.specs.Examples.{fill}
+use Rattle.history.specs.Examples.{fill, withState, withTable}
 use Rattle.history.specs.Promise.{Keeps}
-use Rattle.history.specs.World.{World, Event, admit, step, report, collect, scan, Outcome, Engine, play, recordAt}
-use Rattle.history.proofs.Runs.{begun, run, bookkeeping, kindOf, recordOf, accepts, leaving, withState, withTable}
+use Rattle.history.specs.World.{Event, admit, step, report, collect, scan, Outcome, Engine, play, recordAt}
+use Rattle.history.proofs.Runs.{begun, run, bookkeeping, kindOf, recordOf, accepts, leaving}
 
 -- ---- one that accepts reports and forgets them
 
@@ -110,9 +110,9 @@ staller w e = let o = play w e in cond (accepts 2 e o && isFinished (recordLeft 
 pub staller-told : ¬ Keeps staller
 unfolding bookkeeping staller kindOf recordOf
 staller-told keeps =
-    wrong
+    wrong _ (lit< tt)
     (keeps _ _ (run staller (admit false 0 1 [] ∷ step 0 0 ∷ step 0 0 ∷ step 0 0 ∷ step 0 0 ∷ step 0 0 ∷ step 0 0 ∷ step 0 0 ∷ step 0 0 ∷ step 0 0 ∷ []) (begun staller)) refl
     .most-open 0 (lit< tt, refl))
   where
-    wrong : _≤_ 9 8 → ⊥
-    wrong l = omega arith
+    wrong : (most : ℕ) → most < 9 → 9 ≤ most → ⊥
+    wrong most h l = omega arith

@@ -4,15 +4,15 @@ use Prim.Native.Nat.{ℕ, _<_}
 use mathlib.Core.Bool.{Bool, true, false, cond}
 use mathlib.Core.List.{List}
 use mathlib.Core.Logic.{_⊎_, inl, inr}
-use mathlib.Core.Path.{_≡_, refl, sym, ap, _∙_, subst}
+use mathlib.Core.Path.{_≡_, refl, sym, _∙_, subst}
 use native.Mathlib.Omega.{arith}
-use borrow.Author.Tests.{eqb-true, eqb-false, leb-false, ne-eqb}
+use borrow.Author.Tests.{eqb-true, eqb-false, leb-false}
 use lib.Dec.{eqb, leb}
 use lib.ListN.{getD, set}
 use lib.Seq.{getD-set-same}
 use Rattle.terms.proofs.Rows.{truth}
 use Rattle.geometry.specs.Limits.{none, beyondState, isLost}
-use Rattle.geometry.specs.Report.{reportRefusal, marked, withOut, withLost}
+use Rattle.geometry.specs.Report.{reportRefusal, marked}
 use Rattle.geometry.specs.declared.State.{State}
 use Rattle.graph.specs.Order.{complete, after}
 use Rattle.graph.specs.Steps.{stepOf}

@@ -1,23 +1,22 @@
 -- Every open request can be brought to its end: some steps of it, at most 2n+3 less those that it has taken, are each accepted, and then it is
 -- finished.
 -- Assumes nothing.
-use Prim.Native.Nat.{ℕ, zero, suc, _+_, _-_, _*_, _≤_, _<_}
+use Prim.Native.Nat.{ℕ, zero, suc, _+_, _-_, _*_, _≤_}
 use mathlib.Core.Bool.{true, false}
 use mathlib.Core.List.{List, [], _∷_, map}
 use mathlib.Core.Logic.{_⊎_, inl, inr}
-use mathlib.Core.Path.{_≡_, refl, _∙_}
+use mathlib.Core.Path.{_≡_, refl}
 use native.Mathlib.Omega.{arith}
 use borrow.Author.Tests.{eq-eqb}
 use lib.ListN.{length}
 use Rattle.terms.proofs.Rows.{truth}
-use Rattle.geometry.specs.declared.State.{State}
 use Rattle.record.specs.Life.{isFinished, unitsOf}
 use Rattle.stripe.specs.Blocks.{changed}
 use Rattle.history.specs.Account.{Account, counted, stepNoted, entered, noted}
 use Rattle.history.specs.Examples.{kept}
 use Rattle.history.specs.History.{History, next, Whole}
 use Rattle.history.specs.Promise.{Open, Finished, Keeps}
-use Rattle.history.specs.World.{World, Event, step, Engine, play, recordAt}
+use Rattle.history.specs.World.{World, step, Engine, play, recordAt}
 use Rattle.history.proofs.Demand3.{demand-3}
 
 -- ---- an accepted step of an open request
@@ -45,15 +44,11 @@ module _ (engine : Engine) (w : World) (a : Account) (i k : ℕ) (ok : engine w 
 
 -- ---- step after step
 
--- the steps of record i, these in turn
-abbrev pub stepsOf : ℕ → List ℕ → List Event
-stepsOf i ks = map (step i) ks
-
 -- of any engine that keeps the promise
 module _ (engine : Engine) (keeps : Keeps engine) where
   finish : (m : ℕ) {w : World} {a : Account} → History engine w a → Whole a → (i : ℕ) → Open a i
       → 2 * unitsOf (a .state) + 3 ≤ a .entry i .steps + m
-      → (ks : List ℕ) × (length ks ≤ m) × Finished (kept engine w a (stepsOf i ks)) i
+      → (ks : List ℕ) × (length ks ≤ m) × Finished (kept engine w a (map (step i) ks)) i
   unfolding kept Keeps
   finish zero {w} {a} h whole i o room = absurd (omega (arith, keeps w a h whole .most-open i o))
   finish (suc m) {w} {a} h whole i o room =
@@ -64,8 +59,8 @@ module _ (engine : Engine) (keeps : Keeps engine) where
           → (noted engine w a (step i k) .entry i .phase ≡ 1) ⊎ (noted engine w a (step i k) .entry i .phase ≡ 2)
           → (Whole (noted engine w a (step i k)) → Open (noted engine w a (step i k)) i
           → 2 * unitsOf (noted engine w a (step i k) .state) + 3 ≤ noted engine w a (step i k) .entry i .steps + m
-          → (ks : List ℕ) × (length ks ≤ m) × Finished (kept engine (engine w (step i k) .world) (noted engine w a (step i k)) (stepsOf i ks)) i)
-          → (ks : List ℕ) × (length ks ≤ suc m) × Finished (kept engine w a (stepsOf i ks)) i
+          → (ks : List ℕ) × (length ks ≤ m) × Finished (kept engine (engine w (step i k) .world) (noted engine w a (step i k)) (map (step i) ks)) i)
+          → (ks : List ℕ) × (length ks ≤ suc m) × Finished (kept engine w a (map (step i) ks)) i
       go k ok (inr f) more = (k ∷ [], omega arith, (rw (state-stays engine w a i k ok) (o .0), f))
       go k ok (inl o′) more =
           let stays = state-stays engine w a i k ok in
@@ -74,7 +69,7 @@ module _ (engine : Engine) (keeps : Keeps engine) where
 
   -- every open request of a history in which the array is not lost can be brought to its end
   pub brought-to-end : {w : World} {a : Account} → History engine w a → Whole a → (i : ℕ) → Open a i
-      → (ks : List ℕ) × (length ks + a .entry i .steps ≤ 2 * unitsOf (a .state) + 3) × Finished (kept engine w a (stepsOf i ks)) i
+      → (ks : List ℕ) × (length ks + a .entry i .steps ≤ 2 * unitsOf (a .state) + 3) × Finished (kept engine w a (map (step i) ks)) i
   unfolding Keeps
   brought-to-end {w} {a} h whole i o =
       let most = keeps w a h whole .most-open i o in
@@ -83,5 +78,5 @@ module _ (engine : Engine) (keeps : Keeps engine) where
 
 -- and so of ours
 pub ours-brought-to-end : {w : World} {a : Account} → History play w a → Whole a → (i : ℕ) → Open a i
-    → (ks : List ℕ) × (length ks + a .entry i .steps ≤ 2 * unitsOf (a .state) + 3) × Finished (kept play w a (stepsOf i ks)) i
+    → (ks : List ℕ) × (length ks + a .entry i .steps ≤ 2 * unitsOf (a .state) + 3) × Finished (kept play w a (map (step i) ks)) i
 ours-brought-to-end = brought-to-end play demand-3

@@ -2,7 +2,7 @@
 -- the contracts ask for; the others break the promise itself, in a run that is shown by computation.
 -- Assumes nothing.
 use Prim.Native.Nat.{ℕ, _+_, _-_, _*_}
-use mathlib.Core.Bool.{true, false, cond, not, _&&_}
+use mathlib.Core.Bool.{false, cond, not, _&&_}
 use mathlib.Core.List.{List, [], _∷_}
 use mathlib.Core.Path.{_≡_, refl, sym, ap}
 use native.Mathlib.Omega.{arith}
@@ -10,11 +10,11 @@ use lib.Dec.{eqb, lit<}
 use lib.ListN.{length, getD, set, replicate}
 use Rattle.terms.specs.Reply.{Reply, accepted, refused}
 use Rattle.record.specs.Life.{unitsOf}
-use Rattle.history.specs.Examples.{fill, kept}
+use Rattle.history.specs.Examples.{fill, kept, withWork}
 use Rattle.history.specs.Promise.{Keeps}
-use Rattle.history.specs.World.{World, Event, admit, step, collect, Outcome, Engine, play}
+use Rattle.history.specs.World.{World, Event, admit, step, Outcome, Engine, play}
 use Rattle.history.proofs.Compute.{computed}
-use Rattle.history.proofs.Runs.{start, book, begun, run, one-write, two-writes, idle-of-two, bookkeeping, kindOf, recordOf, accepts, leaving, withWork, unwritten}
+use Rattle.history.proofs.Runs.{start, book, begun, run, one-write, two-writes, idle-of-two, bookkeeping, kindOf, recordOf, accepts, leaving, unwritten}
 
 -- ---- one that refuses everything, by whichever number: an admission to a free stripe is accepted
 

@@ -11,7 +11,7 @@ use Rattle.array.specs.Refusals.{opened as openedState}
 use Rattle.history.specs.Account.{Account}
 use Rattle.history.specs.Answers.{Answer, answerTo, startOf, callsOf, answersOf, ran, answered, Alike}
 use Rattle.history.specs.History.{Decayed, History, opened, next, decayed}
-use Rattle.history.specs.World.{World, Event, play}
+use Rattle.history.specs.World.{World, Event, play, withImage}
 use Rattle.history.proofs.Alikes.{decayed-refl, decayed-trans, decayed-sym, both}
 use Rattle.history.proofs.Books.{state-kept}
 use Rattle.history.proofs.Scans.{open-same}
@@ -44,32 +44,26 @@ alike-sym {u} {v} p =
 
 -- ---- one call
 
--- what comes of a call in two worlds that are alike
-pub record Unseen (w v : World) (e : Event) : Type 0 where
-  pub same-answer : answerTo v e ≡ answerTo w e
-  pub alike-after : Alike (play w e .world) (play v e .world)
-
-pub unseen : {w v : World} → Alike w v → (e : Event) → Unseen w v e
-unseen {w} {v} p e = subst (λ (u : World). Unseen w u e) (sym fields) (record { same-answer = b .0; alike-after = b .1 })
+-- a call in two worlds that are alike: the same answer, and worlds that are alike
+pub unseen : {w v : World} → Alike w v → (e : Event) → (answerTo v e ≡ answerTo w e) × Alike (play w e .world) (play v e .world)
+unseen {w} {v} p e =
+    subst (λ (u : World). (answerTo u e ≡ answerTo w e) × Alike (play w e .world) (play u e .world)) (sym fields)
+    (both w (v .image) (p .same-image) e)
   where
-    fields : v ≡ record { state = w .state; table = w .table; work = w .work; image = v .image }
+    fields : v ≡ withImage w (v .image)
     fields = λ i. record { state = p .same-state i; table = p .same-table i; work = p .same-work i; image = v .image }
-
-    b : (answerTo (record { state = w .state; table = w .table; work = w .work; image = v .image }) e ≡ answerTo w e)
-        × Alike (play w e .world) (play (record { state = w .state; table = w .table; work = w .work; image = v .image }) e .world)
-    b = both w (v .image) (p .same-image) e
 
 -- ---- calls one after the other
 
 ran-alike : {w v : World} → Alike w v → (es : List Event) → Alike (ran w es) (ran v es)
 unfolding ran
 ran-alike p [] = p
-ran-alike p (e ∷ es) = unseen (ran-alike p es) e .alike-after
+ran-alike p (e ∷ es) = unseen (ran-alike p es) e .1
 
 answered-same : {w v : World} → Alike w v → (es : List Event) → answered v es ≡ answered w es
 unfolding answered ran
 answered-same p [] = refl
-answered-same p (e ∷ es) = ap₂ {C = List Answer} (λ a rest. a ∷ rest) (unseen (ran-alike p es) e .same-answer) (answered-same p es)
+answered-same p (e ∷ es) = ap₂ {C = List Answer} (λ a rest. a ∷ rest) (unseen (ran-alike p es) e .0) (answered-same p es)
 
 -- ---- a history, and its calls alone
 
@@ -77,7 +71,7 @@ answered-same p (e ∷ es) = ap₂ {C = List Answer} (λ a rest. a ∷ rest) (un
 pub history-ran : {w : World} {a : Account} (h : History play w a) → Alike (ran (startOf h) (callsOf h)) w
 unfolding startOf callsOf ran
 history-ran (opened g out table work image ok) = alike-refl _
-history-ran (next h e) = unseen (history-ran h) e .alike-after
+history-ran (next h e) = unseen (history-ran h) e .1
 history-ran (decayed h image d) =
     alike-trans (history-ran h) (record { same-state = refl; same-table = refl; same-work = refl; same-image = rw (state-kept h) d })
 
@@ -85,7 +79,7 @@ history-ran (decayed h image d) =
 pub history-answers : {w : World} {a : Account} (h : History play w a) → answersOf h ≡ answered (startOf h) (callsOf h)
 unfolding startOf callsOf answersOf answered
 history-answers (opened g out table work image ok) = refl
-history-answers (next h e) = ap₂ {C = List Answer} (λ a rest. a ∷ rest) (unseen (history-ran h) e .same-answer) (history-answers h)
+history-answers (next h e) = ap₂ {C = List Answer} (λ a rest. a ∷ rest) (unseen (history-ran h) e .0) (history-answers h)
 history-answers (decayed h image d) = history-answers h
 
 -- ---- two histories

@@ -14,7 +14,7 @@ use Rattle.record.specs.Sound.{sound}
 use Rattle.record.specs.declared.Record.{Record}
 use Rattle.array.specs.Opening.{opening}
 use Rattle.history.specs.Account.{Account}
-use Rattle.history.specs.Examples.{fill, small, after, kept}
+use Rattle.history.specs.Examples.{fill, small, after, kept, withState, withTable, withWork}
 use Rattle.history.specs.History.{History, openedWorld, openedAccount, Whole}
 use Rattle.history.specs.History.{opened as begin, decayed}
 use Rattle.history.specs.Promise.{Idle, Promise}
@@ -22,7 +22,7 @@ use Rattle.history.specs.Row.{blockAt, openedRow}
 use Rattle.history.specs.World.{World, Event, admit, report, step, scan, play, withImage}
 use Rattle.history.proofs.Compute.{computed}
 use Rattle.history.proofs.Decay.{block-decays}
-use Rattle.history.proofs.Runs.{run, bookkeeping, withState, withTable, withWork}
+use Rattle.history.proofs.Runs.{run, bookkeeping}
 
 -- three cards, one stripe, one record, every byte zero, none out
 abbrev zeros : List ℕ

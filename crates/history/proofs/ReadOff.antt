@@ -57,14 +57,6 @@ module _ (st : State) (image : List ℕ) (some-unit : 1 < st .cards)
   unfolding restOf
   rest-size c s = length-tabulate (st .block) _
 
-  pub opened-size : (L : ℕ) → L < unitsOf st * st .stripes → length (openedRow st image L) ≡ st .block
-  unfolding openedRow
-  opened-size L h = go (eqb (cardOfBlock st L) (outIn st (stripeOf N L)))
-    where
-      go : (t : Bool) → length (cond t (restOf st image (cardOfBlock st L) (stripeOf N L)) (blockAt st image (cardOfBlock st L) (stripeOf N L))) ≡ st .block
-      go true = rest-size (cardOfBlock st L) (stripeOf N L)
-      go false = block-size (cardOfBlock st L) (stripeOf N L) (placing .card-below (stripeOf N L) (unitOf N L) (omega (arith, unit-below N L (st .stripes) h))) (stripe-below N L (st .stripes) h)
-
   -- ---- at byte b of stripe s
 
   module _ (s b : ℕ) (hb : b < st .block) where
@@ -135,3 +127,13 @@ module _ (st : State) (image : List ℕ) (some-unit : 1 < st .cards)
             let e : p ≡ unitsOf st = omega arith in
             rw e
             (sym (row-parity st (openedRow st image) s b ∙ units ∙ xor-zero-eq _ _ sum ∙ whole-there (unitsOf st) (λ f. d (e ∙ f))))
+
+  -- ---- its blocks are of B bytes
+
+  pub opened-size : (L : ℕ) → L < unitsOf st * st .stripes → length (openedRow st image L) ≡ st .block
+  unfolding openedRow
+  opened-size L h = go (eqb (cardOfBlock st L) (outIn st (stripeOf N L)))
+    where
+      go : (t : Bool) → length (cond t (restOf st image (cardOfBlock st L) (stripeOf N L)) (blockAt st image (cardOfBlock st L) (stripeOf N L))) ≡ st .block
+      go true = rest-size (cardOfBlock st L) (stripeOf N L)
+      go false = block-size (cardOfBlock st L) (stripeOf N L) (placing .card-below (stripeOf N L) (unitOf N L) (omega (arith, unit-below N L (st .stripes) h))) (stripe-below N L (st .stripes) h)

@@ -128,12 +128,30 @@ module _ (w : World) where
 
   -- ---- a refused call
 
-  pub refused-leaves : (e : Event) → ¬ (play w e .reply .number ≡ 0) → play w e .world ≡ w
+  pub admit-left : (write : Bool) (s mask : ℕ) (payload : List ℕ) → ¬ (admitRefusal (w .state) (w .table) (w .work) (w .image) write s mask payload ≡ 0)
+      → play w (admit write s mask payload)
+      ≡ record { reply = refused (admitRefusal (w .state) (w .table) (w .work) (w .image) write s mask payload); world = w; result = [] }
   unfolding play
-  refused-leaves (admit write s mask payload) d =
-      rw (admit-refused (w .state) (w .table) (w .work) (w .image) write s mask payload (λ z. d (admit-number write s mask payload ∙ z)))
-  refused-leaves (step i k) d = rw (step-refused (w .state) (w .table) (w .work) (w .image) i k (λ z. d (step-number i k ∙ z)))
-  refused-leaves (report c) d = rw (report-refused (w .state) c (λ z. d (report-number c ∙ z)))
-  refused-leaves (collect i result) d =
-      rw (collect-refused (w .state) (w .table) (w .work) (w .image) i result (λ z. d (collect-number i result ∙ z)))
-  refused-leaves scan d = refl
+  admit-left write s mask payload d = rw (admit-refused (w .state) (w .table) (w .work) (w .image) write s mask payload d)
+
+  pub step-left : (i k : ℕ) → ¬ (stepRefusal (w .state) (w .table) (w .work) (w .image) i k ≡ 0)
+      → play w (step i k) ≡ record { reply = refused (stepRefusal (w .state) (w .table) (w .work) (w .image) i k); world = w; result = [] }
+  unfolding play
+  step-left i k d = rw (step-refused (w .state) (w .table) (w .work) (w .image) i k d)
+
+  pub report-left : (c : ℕ) → ¬ (reportRefusal (w .state) c ≡ 0)
+      → play w (report c) ≡ record { reply = refused (reportRefusal (w .state) c); world = w; result = [] }
+  unfolding play
+  report-left c d = rw (report-refused (w .state) c d)
+
+  pub collect-left : (i : ℕ) (result : List ℕ) → ¬ (collectRefusal (w .state) (w .table) (w .work) i result ≡ 0)
+      → play w (collect i result) ≡ record { reply = refused (collectRefusal (w .state) (w .table) (w .work) i result); world = w; result = result }
+  unfolding play
+  collect-left i result d = rw (collect-refused (w .state) (w .table) (w .work) (w .image) i result d)
+
+  pub refused-leaves : (e : Event) → ¬ (play w e .reply .number ≡ 0) → play w e .world ≡ w
+  refused-leaves (admit write s mask payload) d = rw (admit-left write s mask payload (λ z. d (admit-number write s mask payload ∙ z)))
+  refused-leaves (step i k) d = rw (step-left i k (λ z. d (step-number i k ∙ z)))
+  refused-leaves (report c) d = rw (report-left c (λ z. d (report-number c ∙ z)))
+  refused-leaves (collect i result) d = rw (collect-left i result (λ z. d (collect-number i result ∙ z)))
+  refused-leaves scan d = unfold play in refl

@@ -7,10 +7,7 @@ use mathlib.Core.Path.{_≡_, refl}
 use native.Mathlib.Omega.{arith}
 use lib.Dec.{eqb}
 use lib.ListN.{replicate}
-use Rattle.geometry.specs.declared.State.{State}
 use Rattle.record.specs.Life.{free}
-use Rattle.record.specs.declared.Record.{Record}
-use Rattle.array.specs.Refusals.{opened as openedState}
 use Rattle.stripe.specs.Blocks.{changed}
 use Rattle.history.specs.Account.{Account, vacant, requested, counted, withEntry, stepNoted, reported, entered, noted}
 use Rattle.history.specs.Examples.{fill, small, opened, openedBook, after, kept}
@@ -82,18 +79,9 @@ recordOf scan = 0
 abbrev pub accepts : ℕ → Event → Outcome → Bool
 accepts kind e o = eqb (kindOf e) kind && eqb (o .reply .number) 0
 
--- the same answer, and another world; the worlds with another state, table and work store
+-- the same answer, and another world
 abbrev pub leaving : Outcome → World → Outcome
 leaving o w = record { reply = o .reply; world = w; result = o .result }
-
-abbrev pub withState : World → State → World
-withState w st = record { state = st; table = w .table; work = w .work; image = w .image }
-
-abbrev pub withTable : World → List Record → World
-withTable w table = record { state = w .state; table = table; work = w .work; image = w .image }
-
-abbrev pub withWork : World → List ℕ → World
-withWork w work = record { state = w .state; table = w .table; work = work; image = w .image }
 
 -- an outcome with the image left as it was
 abbrev pub unwritten : World → Outcome → Outcome

@@ -1,75 +1,29 @@
--- The starred cases of document 01, "Checked examples", as one table: each is shown of the definitions, by computation. Bytes are hex and stand
--- for a block filled with that byte.
+-- The starred cases of document 01 hold: each is shown of the definitions, by computation.
 -- Assumes nothing.
-use Prim.Native.Nat.{ℕ}
-use mathlib.Core.Bool.{Bool, true, not, _||_, _&&_}
-use mathlib.Core.List.{[], _∷_, _++_}
+use Prim.Native.Nat.{ℕ, zero, suc, _+_, _*_, _<_}
+use mathlib.Core.Bool.{true, not, _||_, _&&_}
+use mathlib.Core.List.{[]}
 use mathlib.Core.Path.{_≡_, refl}
+use native.Mathlib.Omega.{arith}
 use lib.Count.{ones}
 use lib.Dec.{eqb}
 use Rattle.terms.specs.Reply.{accepted}
 use Rattle.terms.specs.Sets.{bit, allBelow}
-use Rattle.geometry.specs.Answers.{placeReply, blockAtReply}
+use Rattle.terms.proofs.Sets.{allBelow-elim}
 use Rattle.graph.specs.Choice.{choose}
-use Rattle.history.specs.Examples.{fill, opened, after}
-use Rattle.history.specs.Row.{blockAt, restOf}
-use Rattle.history.specs.World.{World, admit, step, report, collect, play, recordAt}
+use Rattle.record.specs.Life.{unitsOf}
+use Rattle.history.specs.Starred.{start4, writing, written, died, mended, threeDone, chosenAfresh, longest, Starred}
+use Rattle.history.specs.World.{collect, play, recordAt}
 use Rattle.history.proofs.Compute.{computed}
 
--- of all masks of 4 units for which the test holds, position x missing (5: none), graph g is chosen for a write
-abbrev pub Chooses : (ℕ → Bool) → ℕ → ℕ → Type 0
-Chooses masks x g = allBelow 16 (λ mask. not (masks mask) || eqb (choose 4 true mask x) g) ≡ true
-
--- N = 4, units 11, 22, 44 and their parity, none out; the stripe's parity is on card 3
-unfoldable pub start4 : World
-start4 = opened 4 1 255 (fill 0x11 ++ fill 0x22 ++ fill 0x44 ++ fill 0x77)
-
--- a write of 33 to unit 1 admitted: its steps are 1 and 3 (reads of unit 1 and of parity), 4 (the exclusive or), 6 and 8 (writes of unit 1 and
--- of parity)
-unfoldable pub writing : World
-writing = after play start4 (admit true 0 2 (fill 0x33) ∷ [])
-
--- it is brought to its end; or unit 1's card goes out before its write, which then is chosen afresh: 0 and 2 (reads of the other units), 4, 8
-unfoldable pub written : World
-written = after play writing (step 0 1 ∷ step 0 3 ∷ step 0 4 ∷ step 0 6 ∷ step 0 8 ∷ [])
-
-unfoldable pub died : World
-died = after play writing (step 0 1 ∷ step 0 3 ∷ step 0 4 ∷ report 1 ∷ step 0 6 ∷ [])
-
-unfoldable pub mended : World
-mended = after play died (step 0 0 ∷ step 0 2 ∷ step 0 4 ∷ step 0 8 ∷ [])
-
--- N = 3, a write of both units: 3 steps done (the exclusive or, the writes of unit 0 and of parity), then unit 1's card is out at the last one
-unfoldable pub longest : World
-longest =
-    after play (opened 3 1 255 (fill 0 ++ fill 0 ++ fill 0))
-    (admit true 0 3 (fill 0x55 ++ fill 0x66) ∷ step 0 3 ∷ step 0 4 ∷ step 0 6 ∷ report 1 ∷ step 0 5 ∷ step 0 3 ∷ step 0 4 ∷ step 0 6 ∷ [])
-
-pub record Starred : Type 0 where
-  -- N = 5, S = 5. Block 0: card 0, stripe 0. Block 7: card 2, stripe 1. Block 10: card 0, stripe 2. Card 3, stripe 1: parity
-  pub block-0 : placeReply 5 5 0 ≡ accepted 0 0
-  pub block-7 : placeReply 5 5 7 ≡ accepted 2 1
-  pub block-10 : placeReply 5 5 10 ≡ accepted 0 2
-  pub card-3-stripe-1 : blockAtReply 5 5 3 1 ≡ accepted 1 0
-  -- none out: m=1 gives graph 3, m=2 gives 4; unit 2 out: m=1 holding X gives 4, m=3 without X gives 3
-  pub one-unit : Chooses (λ mask. eqb (ones mask) 1) 5 3
-  pub two-units : Chooses (λ mask. eqb (ones mask) 2) 5 4
-  pub one-holding-X : Chooses (λ mask. eqb (ones mask) 1 && bit 2 mask) 2 4
-  pub three-without-X : Chooses (λ mask. eqb (ones mask) 3 && not (bit 2 mask)) 2 3
-  -- N = 4, units 11, 22, 44: parity 77
-  pub parity-77 : restOf (start4 .state) (start4 .image) 3 0 ≡ fill 0x77
-  -- writing 33 to unit 1 by graph 3: parity 66
-  pub by-graph-3 : recordAt writing 0 .graph ≡ 3
-  pub parity-66 : written .image ≡ fill 0x11 ++ fill 0x33 ++ fill 0x44 ++ fill 0x66
-  -- if unit 1's card goes out before its write: graph 4, parity 66, unit 1 inferred as 33
-  pub by-graph-4 : recordAt died 0 .graph ≡ 4
-  pub dead-parity-66 : blockAt (mended .state) (mended .image) 3 0 ≡ fill 0x66
-  pub inferred-33 : restOf (mended .state) (mended .image) 1 0 ≡ fill 0x33
-  -- N = 3, a full write whose last step meets a dead data card: 3 done, 1 to choose afresh, 3 more, 7 = 2n+3
-  pub seven-steps : play longest (collect 0 []) .reply ≡ accepted 7 0
+-- of both units of a stripe, N = 3
+of-both : (P : ℕ → Type 0) → P 0 → P 1 → (u : ℕ) → u < 2 → P u
+of-both P p q zero h = p
+of-both P p q (suc zero) h = q
+of-both P p q (suc (suc u)) h = absurd (omega arith)
 
 pub starred : Starred
-unfolding computed start4 writing written died mended longest
+unfolding computed start4 writing written died mended threeDone chosenAfresh longest
 starred =
     record {
       block-0 = refl;
@@ -78,13 +32,18 @@ starred =
       card-3-stripe-1 = refl;
       one-unit = refl;
       two-units = refl;
-      one-holding-X = refl;
-      three-without-X = refl;
+      one-holding-X = λ x h.
+          allBelow-elim 4 (λ y. allBelow 16 (λ mask. not (eqb (ones mask) 1 && bit y mask) || eqb (choose 4 true mask y) 4)) refl x h;
+      three-without-X = λ x h.
+          allBelow-elim 4 (λ y. allBelow 16 (λ mask. not (eqb (ones mask) 3 && not (bit y mask)) || eqb (choose 4 true mask y) 3)) refl x h;
       parity-77 = refl;
       by-graph-3 = refl;
       parity-66 = refl;
       by-graph-4 = refl;
       dead-parity-66 = refl;
       inferred-33 = refl;
-      seven-steps = refl;
+      three-steps = of-both (λ u. recordAt (threeDone u) 0 .count ≡ 3) refl refl;
+      one-afresh = of-both (λ u. (recordAt (chosenAfresh u) 0 .count ≡ 4) × (recordAt (chosenAfresh u) 0 .done ≡ 0)) (refl, refl) (refl, refl);
+      all-steps = of-both (λ u. play (longest u) (collect 0 []) .reply ≡ accepted (2 * unitsOf (longest u .state) + 3) 0) refl refl;
+      seven-steps = of-both (λ u. 2 * unitsOf (longest u .state) + 3 ≡ 7) refl refl;
     }

@@ -4,7 +4,9 @@ use Prim.Native.Nat.{ℕ, _*_}
 use mathlib.Core.List.{List, [], _∷_}
 use lib.ListN.{replicate}
 use Rattle.geometry.specs.declared.Geometry.{Geometry}
+use Rattle.geometry.specs.declared.State.{State}
 use Rattle.record.specs.Life.{free}
+use Rattle.record.specs.declared.Record.{Record}
 use Rattle.history.specs.Account.{Account, noted}
 use Rattle.history.specs.History.{openedWorld, openedAccount}
 use Rattle.history.specs.World.{World, Event, Engine}
@@ -32,3 +34,13 @@ after engine w (e ∷ es) = after engine (engine w e .world) es
 unfoldable pub kept : Engine → World → Account → List Event → Account
 kept engine w a [] = a
 kept engine w a (e ∷ es) = kept engine (engine w e .world) (noted engine w a e) es
+
+-- a world with another state, table or work store in the place of its own
+abbrev pub withState : World → State → World
+withState w st = record { state = st; table = w .table; work = w .work; image = w .image }
+
+abbrev pub withTable : World → List Record → World
+withTable w table = record { state = w .state; table = table; work = w .work; image = w .image }
+
+abbrev pub withWork : World → List ℕ → World
+withWork w work = record { state = w .state; table = w .table; work = work; image = w .image }

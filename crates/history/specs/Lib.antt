@@ -6,3 +6,4 @@ pub mod History
 pub mod Promise
 pub mod Answers
 pub mod Examples
+pub mod Starred
