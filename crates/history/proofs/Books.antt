@@ -8,35 +8,26 @@ use mathlib.Core.Logic.{_⊎_, inl, inr}
 use mathlib.Core.Path.{_≡_, refl, sym, ap, _∙_}
 use native.Mathlib.Omega.{arith}
 use borrow.Author.Tests.{eqb-true, eqb-false, ne-eqb}
-use lib.Dec.{eqb, leb}
+use lib.Dec.{eqb}
 use Rattle.terms.specs.Lists.{every}
 use Rattle.terms.specs.Reply.{onAccept}
 use Rattle.terms.proofs.Rows.{and-left, and-right, truth}
-use Rattle.geometry.specs.Limits.{none, beyondState, isLost}
-use Rattle.geometry.specs.Report.{reportRefusal, marked, withOut, withLost}
+use Rattle.geometry.specs.Limits.{none}
+use Rattle.geometry.specs.Report.{marked, withOut, withLost}
 use Rattle.geometry.specs.declared.State.{State}
-use Rattle.array.proofs.Passed.{passed}
 use Rattle.array.specs.Refusals.{opened as openedState}
 use Rattle.history.specs.Account.{Account, withEntry, stepNoted, reported, entered, noted}
 use Rattle.history.specs.History.{History, opened, next, decayed, openedAccount, Always, reportedIn, cardsOut, OneCard, Whole}
 use Rattle.history.specs.World.{World, Event, admit, step, report, collect, scan, Outcome, Engine, play}
 use Rattle.history.proofs.Opened.{open-passed, open-state}
-use Rattle.history.proofs.Replies.{report-number, report-taken, refused-leaves}
+use Rattle.history.proofs.Replies.{report-tests, report-taken, refused-leaves}
 
 -- ---- what a report notes
 
--- an accepted report is of another card than the one that is out, so it notes what report marks
-pub another : (st : State) (c : ℕ) → reportRefusal st c ≡ 0 → ¬ (c ≡ st .out)
-unfolding reportRefusal
-another st c e =
-    let a = passed (beyondState st) 0 _ e in
-    let b = passed (isLost st) 3 _ (a .1) in
-    let d = passed (leb (st .cards) c) 4 _ (b .1) in
-    eqb-false c (st .out) (passed (eqb c (st .out)) 11 [] (d .1) .0)
-
-pub report-noted : (st : State) (c : ℕ) → reportRefusal st c ≡ 0 → reported st c ≡ marked st c
+-- of another card than the one that is out, what report marks
+pub report-noted : (st : State) (c : ℕ) → ¬ (c ≡ st .out) → reported st c ≡ marked st c
 unfolding reported marked
-report-noted st c ok = rw (ne-eqb c (st .out) (another st c ok))
+report-noted st c another = rw (ne-eqb c (st .out) another)
 
 -- not lost: the mark is 0
 not-marked : (a : Account) → Whole a → a .state .lost ≡ 0
@@ -176,9 +167,8 @@ module _ (w : World) (a : Account) (same : w .state ≡ a .state) where
   accepted-same (admit write s mask payload) ok = same
   accepted-same (step i k) ok = same
   accepted-same (report c) ok =
-      let none-refused = sym (report-number w c) ∙ ok in
-      ap (λ (o : Outcome). o .world .state) (report-taken w c none-refused)
-      ∙ sym (report-noted (w .state) c none-refused)
+      ap (λ (o : Outcome). o .world .state) (report-taken w c ok)
+      ∙ sym (report-noted (w .state) c (report-tests w c ok .another))
       ∙ ap (λ (st : State). reported st c) same
   accepted-same (collect i result) ok = same
   accepted-same scan ok = same
