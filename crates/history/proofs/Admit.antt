@@ -109,7 +109,7 @@ module _ (w : World) (a : Account) (sure : Sure w a) (write : Bool) (s mask : �
   -- ---- the stripe works towards the row that the request leaves
 
   working-begun : (b : ℕ) → b < w .state .block
-      → Faithful bytes (unitsOf (w .state)) (missingIn (w .state) s) (begun (unitsOf (w .state)) write mask (missingIn (w .state) s))
+      → Faithful bytes (unitsOf (w .state)) (missingIn (w .state) s) (begun (unitsOf (w .state)) write mask (missingIn (w .state) s)) (λ p. false)
       (rowOf (w .state) (a .row) s b) (rowOf (w .state) (afterRow (w .state) (a .row) entry) s b) (viewOf (w .state) stored (w .image) place s b)
   unfolding requested
   working-begun b hb =
@@ -129,8 +129,9 @@ module _ (w : World) (a : Account) (sure : Sure w a) (write : Bool) (s mask : �
       record {
         proper = subst (λ (q : Request). Proper n x q) as-made
             (numbers n .started x write mask (mask-some n mask (ok .mask-legal)) (mask-units n mask (ok .mask-legal)));
+        renewed = λ p. false;
         faithful = λ b hb.
-            subst (λ (q : Request). Faithful bytes n x q (rowOf (w .state) (a .row) s b)
+            subst (λ (q : Request). Faithful bytes n x q (λ p. false) (rowOf (w .state) (a .row) s b)
             (rowOf (w .state) (afterRow (w .state) (a .row) entry) s b) (viewOf (w .state) stored (w .image) place s b)) as-made
             (working-begun b hb);
       }

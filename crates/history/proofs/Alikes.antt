@@ -2,37 +2,35 @@
 -- Assumes nothing.
 use Prim.Native.Nat.{ℕ, _<_}
 use mathlib.Core.Bool.{Bool, true, false, cond}
-use mathlib.Core.List.{List}
+use mathlib.Core.List.{List, []}
 use mathlib.Core.Logic.{_⊎_, inl, inr}
 use mathlib.Core.Path.{_≡_, refl, sym, ap, _∙_}
 use native.Mathlib.Omega.{arith}
 use borrow.Author.Tests.{eqb-true, eqb-false}
 use lib.Dec.{eqb}
-use lib.ListN.{set}
+use Rattle.terms.specs.Reply.{refused}
 use Rattle.terms.proofs.Rows.{truth}
-use Rattle.geometry.proofs.Bounds.{Bounds, within-limits}
+use Rattle.geometry.proofs.Bounds.{within-limits}
+use Rattle.geometry.specs.Limits.{geometryOf, none, beyondState}
 use Rattle.geometry.proofs.Missing.{none-missing}
-use Rattle.geometry.proofs.Placing.{placed-in}
-use Rattle.geometry.specs.Limits.{geometryOf, none}
 use Rattle.geometry.specs.Placement.{outIn}
-use Rattle.geometry.specs.Report.{reportRefusal, marked, withOut, withLost}
+use Rattle.geometry.specs.Report.{marked, withOut, withLost}
 use Rattle.geometry.specs.declared.State.{State}
 use Rattle.graph.specs.Steps.{stepOf}
 use Rattle.record.specs.Life.{unitsOf, chosenAt, missingIn}
 use Rattle.record.specs.declared.Record.{Record}
-use Rattle.array.proofs.Admissions.{admitNumber}
-use Rattle.array.proofs.Reports.{report-passed}
-use Rattle.array.proofs.Steppings.{Ready, stepNumber, step-passed}
+use Rattle.array.proofs.Steppings.{Ready}
 use Rattle.array.proofs.Steps.{Within}
 use Rattle.array.specs.Refusals.{stepReady}
-use Rattle.array.specs.Stepping.{SteppingBy, meetsOut, accepting}
+use Rattle.array.specs.Stepping.{meetsOut}
 use Rattle.stripe.proofs.Readied.{readied}
 use Rattle.history.specs.Answers.{answerTo, Alike}
 use Rattle.history.specs.History.{Decayed}
-use Rattle.history.specs.World.{World, Event, admit, step, report, collect, scan, play, recordAt}
+use Rattle.history.specs.World.{World, Event, admit, step, report, collect, scan, Outcome, play, recordAt}
 use Rattle.history.proofs.Calls.{work-same, image-same}
 use Rattle.history.proofs.Facts.{bounds, open-fits}
-use Rattle.history.proofs.Replies.{admit-taken, step-taken, report-taken, admit-left, step-left, report-left}
+use Rattle.geometry.proofs.Placing.{placed-in}
+use Rattle.history.proofs.Replies.{admit-taken, step-tests, step-afresh, step-done, report-tests, report-taken, admit-left, step-left, refused-leaves}
 use Rattle.history.proofs.Scans.{scan-same}
 use Rattle.history.proofs.Step.{kind-within}
 use Rattle.record.proofs.Clauses.{Fit}
@@ -62,22 +60,39 @@ module _ (w : World) (image′ : List ℕ) (same : Decayed (w .state) (w .image)
   abbrev Both : Event → Type 0
   Both e = (answerTo v e ≡ answerTo w e) × Alike (play w e .world) (play v e .world)
 
+  -- the two worlds themselves
+  here : Alike w v
+  here = record { same-state = refl; same-table = refl; same-work = refl; same-image = same }
+
+  -- worlds that have the same state, table and work store
+  abbrev Differing : (st : State) (table : List Record) (work l l′ : List ℕ) → Type 0
+  Differing st table work l l′ =
+      Alike (record { state = st; table = table; work = work; image = l }) (record { state = st; table = table; work = work; image = l′ })
+
+  differing : (st : State) (table : List Record) (work l l′ : List ℕ) → Decayed st l l′ → Differing st table work l l′
+  differing st table work l l′ d = record { same-state = refl; same-table = refl; same-work = refl; same-image = d }
+
   admit-both : (write : Bool) (s mask : ℕ) (payload : List ℕ) → Both (admit write s mask payload)
   admit-both write s mask payload = go (truth (eqb number 0))
     where
       number : ℕ
-      number = admitNumber (w .state) (w .table) (w .work) (w .image) write s mask payload
+      number = play w (admit write s mask payload) .reply .number
 
-      also : admitNumber (w .state) (w .table) (w .work) image′ write s mask payload ≡ number
-      also = admit-same (w .state) (w .image) image′ same (w .table) (w .work) write s mask payload
+      also : play v (admit write s mask payload) .reply .number ≡ number
+      also = admit-same w image′ same write s mask payload
 
       go : (eqb number 0 ≡ true) ⊎ (eqb number 0 ≡ false) → Both (admit write s mask payload)
       go (inl e) =
           let ok = eqb-true number 0 e in
-          rw (admit-taken w write s mask payload ok, admit-taken v write s mask payload (also ∙ ok)) (refl, record { same-state = refl; same-table = refl; same-work = refl; same-image = same })
+          rw (admit-taken w write s mask payload ok, admit-taken v write s mask payload (also ∙ ok))
+          (refl, differing _ _ _ (w .image) image′ same)
       go (inr e) =
-          let d = eqb-false number 0 e in
-          rw (admit-left w write s mask payload d, admit-left v write s mask payload (λ z. d (sym also ∙ z)), also) (refl, record { same-state = refl; same-table = refl; same-work = refl; same-image = same })
+          let d = eqb-false number 0 e in (
+            ap (λ (o : Outcome). record { reply = o .reply; result = o .result }) (admit-left v write s mask payload (λ z. d (sym also ∙ z)))
+                ∙ ap (λ (m : ℕ). record { reply = refused m; result = [] }) also
+                ∙ sym (ap (λ (o : Outcome). record { reply = o .reply; result = o .result }) (admit-left w write s mask payload d)),
+            rw (refused-leaves w (admit write s mask payload) d, refused-leaves v (admit write s mask payload) (λ z. d (sym also ∙ z))) here,
+          )
 
   collect-both : (i : ℕ) (result : List ℕ) → Both (collect i result)
   unfolding play
@@ -87,17 +102,18 @@ module _ (w : World) (image′ : List ℕ) (same : Decayed (w .state) (w .image)
   unfolding play
   scan-both = (
     rw (scan-same (w .state) (w .image) image′ same (w .table)),
-    record { same-state = refl; same-table = refl; same-work = refl; same-image = same },
+    here,
   )
 
   -- with none out, images that agree on the cards that work agree on all, so also on those that work when one goes out
-  out-same : (c : ℕ) → reportRefusal (w .state) c ≡ 0 → w .state .out ≡ none → Decayed (withOut (w .state) c) (w .image) image′
+  out-same : (c : ℕ) → beyondState (w .state) ≡ false → w .state .out ≡ none → Decayed (withOut (w .state) c) (w .image) image′
   unfolding outIn
-  out-same c e o =
-      let limits = within-limits (geometryOf (w .state)) (w .state .out) (report-passed (w .state) c e .limits) in
+  out-same c limits o =
       record {
         same-length = same .same-length;
-        same-bytes = λ d s b hd hs hb works. same .same-bytes d s b hd hs hb (none-missing (w .state) d s (omega (arith, limits .cards-high)));
+        same-bytes = λ d s b hd hs hb works.
+            same .same-bytes d s b hd hs hb
+            (none-missing (w .state) d s (omega (arith, within-limits (geometryOf (w .state)) (w .state .out) limits .cards-high)));
       }
 
   lost-same : Decayed (withLost (w .state)) (w .image) image′
@@ -108,32 +124,29 @@ module _ (w : World) (image′ : List ℕ) (same : Decayed (w .state) (w .image)
         same-bytes = λ c s b hc hs hb works. same .same-bytes c s b hc hs hb (λ m. works (record { is-card = m .is-card; is-out = m .is-out }));
       }
 
-  -- a report alters the state, of both alike
+  -- a report alters the state, of both alike, and does not look at the image
   report-both : (c : ℕ) → Both (report c)
-  report-both c = go (truth (eqb number 0))
+  report-both c = (unfold play in refl, go (truth (eqb number 0)))
     where
       number : ℕ
-      number = reportRefusal (w .state) c
+      number = play w (report c) .reply .number
 
-      marked-same : number ≡ 0 → (o : Bool) → eqb (w .state .out) none ≡ o → Decayed (cond o (withOut (w .state) c) (withLost (w .state))) (w .image) image′
-      marked-same ok true o = out-same c ok (eqb-true (w .state .out) none o)
-      marked-same ok false o = lost-same
+      also : play v (report c) .reply .number ≡ number
+      also = unfold play in refl
 
-      go : (eqb number 0 ≡ true) ⊎ (eqb number 0 ≡ false) → Both (report c)
+      marked-same : beyondState (w .state) ≡ false → (o : Bool) → eqb (w .state .out) none ≡ o
+          → Decayed (cond o (withOut (w .state) c) (withLost (w .state))) (w .image) image′
+      marked-same limits true o = out-same c limits (eqb-true (w .state .out) none o)
+      marked-same limits false o = lost-same
+
+      go : (eqb number 0 ≡ true) ⊎ (eqb number 0 ≡ false) → Alike (play w (report c) .world) (play v (report c) .world)
       go (inl e) =
           let ok = eqb-true number 0 e in
-          rw (report-taken w c ok, report-taken v c ok) (
-            refl,
-            record {
-              same-state = refl;
-              same-table = refl;
-              same-work = refl;
-              same-image = unfold marked in marked-same ok (eqb (w .state .out) none) refl;
-            },
-          )
+          rw (report-taken w c ok, report-taken v c (also ∙ ok))
+          (differing _ _ _ (w .image) image′ (unfold marked in marked-same (report-tests w c ok .limits) (eqb (w .state .out) none) refl))
       go (inr e) =
           let d = eqb-false number 0 e in
-          rw (report-left w c d, report-left v c d) (refl, record { same-state = refl; same-table = refl; same-work = refl; same-image = same })
+          rw (refused-leaves w (report c) d, refused-leaves v (report c) (λ z. d (sym also ∙ z))) here
 
   -- ---- a step
 
@@ -141,17 +154,8 @@ module _ (w : World) (image′ : List ℕ) (same : Decayed (w .state) (w .image)
     abbrev r : Record
     r = recordAt w i
 
-    -- two outcomes of a step that answer the same and leave alike
-    record Same (a b : SteppingBy) : Type 0 where
-      same-reply : b .reply ≡ a .reply
-      same-stands : b .stands ≡ a .stands
-      same-work : b .work ≡ a .work
-      same-image : Decayed (w .state) (a .image) (b .image)
-
-    accepted-same : Ready (w .state) (w .table) (w .work) (w .image) i k
-        → Same (accepting (w .state) (w .work) (w .image) i r k) (accepting (w .state) (w .work) image′ i r k)
-    unfolding accepting
-    accepted-same ok = go (truth meets)
+    accepted-same : play w (step i k) .reply .number ≡ 0 → play v (step i k) .reply .number ≡ 0 → Both (step i k)
+    accepted-same ok ok′ = go (truth meets)
       where
         n : ℕ
         n = unitsOf (w .state)
@@ -159,56 +163,53 @@ module _ (w : World) (image′ : List ℕ) (same : Decayed (w .state) (w .image)
         meets : Bool
         meets = meetsOut (missingIn (w .state) (r .stripe)) (stepOf n k)
 
-        limits : Bounds (w .state .cards) (w .state .stripes) (w .state .block) (w .state .records)
-        limits = bounds (ok .right)
+        tests : Ready (w .state) (w .table) (w .work) (w .image) i k
+        tests = step-tests w i k ok
 
         some-card : 0 < w .state .cards
-        some-card = omega (arith, limits .cards-low)
+        some-card = omega (arith, bounds (tests .right) .cards-low)
 
         fits : Fit (w .state) r
-        fits = open-fits (ok .right) i (ok .record-below) (ok .is-open)
+        fits = open-fits (tests .right) i (tests .record-below) (tests .is-open)
 
         within : Within (w .state .cards) (stepOf n k)
         within =
             kind-within n (w .state .cards) k (stepOf n k) (omega (arith, some-card))
-            (readied n (r .graph) (r .mask) (chosenAt (w .state) r) (r .done) k (unfold stepReady in ok .is-ready) .as-step)
+            (readied n (r .graph) (r .mask) (chosenAt (w .state) r) (r .done) k (unfold stepReady in tests .is-ready) .as-step)
 
-        go : (meets ≡ true) ⊎ (meets ≡ false)
-            → Same (accepting (w .state) (w .work) (w .image) i r k) (accepting (w .state) (w .work) image′ i r k)
-        go (inl e) = rw e (record { same-reply = refl; same-stands = refl; same-work = refl; same-image = same })
+        go : (meets ≡ true) ⊎ (meets ≡ false) → Both (step i k)
+        go (inl e) = rw (step-afresh w i k ok e, step-afresh v i k ok′ e) (refl, differing _ _ _ (w .image) image′ same)
         go (inr e) =
-            rw e
-            (record {
-              same-reply = refl;
-              same-stands = refl;
-              same-work =
-                  work-same (w .state) (w .work) (w .image) image′ same r i (placed-in (w .state) some-card) (ok .right .image-right) (fits .stripe-below)
-                  (stepOf n k) within e;
-              same-image =
-                  image-same (w .state) (w .work) (w .image) image′ same r i (placed-in (w .state) some-card) (ok .right .image-right) (fits .stripe-below)
-                  (stepOf n k) within (ok .record-below) (ok .right .work-right);
-            })
+            rw (
+              step-done w i k ok e,
+              step-done v i k ok′ e,
+              work-same (w .state) (w .work) (w .image) image′ same r i (placed-in (w .state) some-card) (tests .right .image-right) (fits .stripe-below)
+                  (stepOf n k) within e,
+            ) (
+              refl,
+              differing _ _ _ _ _
+                  (image-same (w .state) (w .work) (w .image) image′ same r i (placed-in (w .state) some-card) (tests .right .image-right) (fits .stripe-below)
+                  (stepOf n k) within (tests .record-below) (tests .right .work-right)),
+            )
 
     step-both : Both (step i k)
     step-both = go (truth (eqb number 0))
       where
         number : ℕ
-        number = stepNumber (w .state) (w .table) (w .work) (w .image) i k
+        number = play w (step i k) .reply .number
 
-        also : stepNumber (w .state) (w .table) (w .work) image′ i k ≡ number
-        also = step-same (w .state) (w .image) image′ same (w .table) (w .work) i k
+        also : play v (step i k) .reply .number ≡ number
+        also = step-same w image′ same i k
 
         go : (eqb number 0 ≡ true) ⊎ (eqb number 0 ≡ false) → Both (step i k)
-        go (inl e) =
-            let ok = eqb-true number 0 e in
-            let made = accepted-same (step-passed (w .state) (w .table) (w .work) (w .image) i k ok) in
-            rw (step-taken w i k ok, step-taken v i k (also ∙ ok)) (
-              rw (made .same-reply),
-              record { same-state = refl; same-table = ap (set (w .table) i) (made .same-stands); same-work = made .same-work; same-image = made .same-image },
-            )
+        go (inl e) = accepted-same (eqb-true number 0 e) (also ∙ eqb-true number 0 e)
         go (inr e) =
-            let d = eqb-false number 0 e in
-            rw (step-left w i k d, step-left v i k (λ z. d (sym also ∙ z)), also) (refl, record { same-state = refl; same-table = refl; same-work = refl; same-image = same })
+            let d = eqb-false number 0 e in (
+              ap (λ (o : Outcome). record { reply = o .reply; result = o .result }) (step-left v i k (λ z. d (sym also ∙ z)))
+                  ∙ ap (λ (m : ℕ). record { reply = refused m; result = [] }) also
+                  ∙ sym (ap (λ (o : Outcome). record { reply = o .reply; result = o .result }) (step-left w i k d)),
+              rw (refused-leaves w (step i k) d, refused-leaves v (step i k) (λ z. d (sym also ∙ z))) here,
+            )
 
   pub both : (e : Event) → Both e
   both (admit write s mask payload) = admit-both write s mask payload

@@ -13,22 +13,21 @@ use Rattle.terms.specs.Lists.{every}
 use Rattle.terms.specs.Reply.{onAccept}
 use Rattle.terms.proofs.Rows.{and-left, and-right, truth}
 use Rattle.geometry.specs.Limits.{none}
-use Rattle.geometry.specs.Report.{reportRefusal, marked, withOut, withLost}
+use Rattle.geometry.specs.Report.{marked, withOut, withLost}
 use Rattle.geometry.specs.declared.State.{State}
-use Rattle.array.proofs.Reports.{report-passed}
 use Rattle.array.specs.Refusals.{opened as openedState}
 use Rattle.history.specs.Account.{Account, withEntry, stepNoted, reported, entered, noted}
 use Rattle.history.specs.History.{History, opened, next, decayed, openedAccount, Always, reportedIn, cardsOut, OneCard, Whole}
 use Rattle.history.specs.World.{World, Event, admit, step, report, collect, scan, Outcome, Engine, play}
-use Rattle.history.proofs.Opened.{open-state}
-use Rattle.history.proofs.Replies.{report-number, report-taken, refused-leaves}
+use Rattle.history.proofs.Opened.{open-passed, open-state}
+use Rattle.history.proofs.Replies.{report-tests, report-taken, refused-leaves}
 
 -- ---- what a report notes
 
--- an accepted report is of another card than the one that is out, so it notes what report marks
-pub report-noted : (st : State) (c : ℕ) → reportRefusal st c ≡ 0 → reported st c ≡ marked st c
+-- of another card than the one that is out, what report marks
+pub report-noted : (st : State) (c : ℕ) → ¬ (c ≡ st .out) → reported st c ≡ marked st c
 unfolding reported marked
-report-noted st c ok = rw (ne-eqb c (st .out) (report-passed st c ok .another))
+report-noted st c another = rw (ne-eqb c (st .out) another)
 
 -- not lost: the mark is 0
 not-marked : (a : Account) → Whole a → a .state .lost ≡ 0
@@ -168,9 +167,8 @@ module _ (w : World) (a : Account) (same : w .state ≡ a .state) where
   accepted-same (admit write s mask payload) ok = same
   accepted-same (step i k) ok = same
   accepted-same (report c) ok =
-      let none-refused = sym (report-number w c) ∙ ok in
-      ap (λ (o : Outcome). o .world .state) (report-taken w c none-refused)
-      ∙ sym (report-noted (w .state) c none-refused)
+      ap (λ (o : Outcome). o .world .state) (report-taken w c ok)
+      ∙ sym (report-noted (w .state) c (report-tests w c ok .another))
       ∙ ap (λ (st : State). reported st c) same
   accepted-same (collect i result) ok = same
   accepted-same scan ok = same
@@ -185,6 +183,6 @@ module _ (w : World) (a : Account) (same : w .state ≡ a .state) where
       go (inr f) = rw (f, refused-leaves w e (eqb-false (play w e .reply .number) 0 f)) same
 
 pub state-kept : {w : World} {a : Account} → History play w a → w .state ≡ a .state
-state-kept (opened g out table work image ok) = unfold openedAccount in open-state g out table work image ok
+state-kept (opened g out table work image ok) = unfold openedAccount in open-state g out table work image (open-passed g out table work image ok)
 state-kept (next {w} {a} h e) = same-after w a (state-kept h) e
 state-kept (decayed h image d) = state-kept h

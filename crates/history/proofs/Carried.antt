@@ -53,13 +53,13 @@ module _ (n x y : ℕ) (moves : (y ≡ x) ⊎ (n < x)) where
       go (inl e) = subst (λ (z : ℕ). Proper n z q) (sym e) P
       go (inr l) = numbers n .failed x y q P l
 
-  faithful-on : (q : Request) (R R′ : ℕ → ℕ) (b : Blocks ℕ) (cell : ℕ → ℕ) → ((p : ℕ) → p ≤ n → ¬ (p ≡ y) → cell p ≡ b .cell p)
-      → Faithful bytes n x q R R′ b → Faithful bytes n y q R R′ (record { cell = cell; got = b .got; new = b .new })
-  faithful-on q R R′ b cell same F = heart bytes n .decayed y q R R′ b cell same (go moves)
+  faithful-on : (q : Request) (renewed : ℕ → Bool) (R R′ : ℕ → ℕ) (b : Blocks ℕ) (cell : ℕ → ℕ) → ((p : ℕ) → p ≤ n → ¬ (p ≡ y) → cell p ≡ b .cell p)
+      → Faithful bytes n x q renewed R R′ b → Faithful bytes n y q renewed R R′ (record { cell = cell; got = b .got; new = b .new })
+  faithful-on q renewed R R′ b cell same F = heart bytes n .decayed y q renewed R R′ b cell same (go moves)
     where
-      go : (y ≡ x) ⊎ (n < x) → Faithful bytes n y q R R′ b
-      go (inl e) = subst (λ (z : ℕ). Faithful bytes n z q R R′ b) (sym e) F
-      go (inr l) = heart bytes n .failed x y q R R′ b F l
+      go : (y ≡ x) ⊎ (n < x) → Faithful bytes n y q renewed R R′ b
+      go (inl e) = subst (λ (z : ℕ). Faithful bytes n z q renewed R R′ b) (sym e) F
+      go (inr l) = heart bytes n .failed x y q renewed R R′ b F l
 
   idle-on : (R before after : ℕ → ℕ) → ((p : ℕ) → p ≤ n → ¬ (p ≡ y) → after p ≡ before p) → Idle bytes n x R before → Idle bytes n y R after
   idle-on R before after same I = heart bytes n .decayed-idle y R before after same (go moves)
@@ -188,8 +188,9 @@ module _ (w : World) (a : Account) (sure : Sure w a) where
             let on = moves (r .stripe) (g .stays) in
             record {
               proper = proper-on n (missingIn st (r .stripe)) (missingIn st′ (r .stripe)) on _ (was .proper);
+              renewed = was .renewed;
               faithful = λ b hb.
-                  faithful-on n (missingIn st (r .stripe)) (missingIn st′ (r .stripe)) on _ _ _ _ (cellsOf st′ image (r .stripe) b)
+                  faithful-on n (missingIn st (r .stripe)) (missingIn st′ (r .stripe)) on _ _ _ _ _ (cellsOf st′ image (r .stripe) b)
                   (λ p l d. g .same-cells b p hb l d) (was .faithful b hb);
             }
         go (inr g) =

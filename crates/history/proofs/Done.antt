@@ -27,7 +27,7 @@ use Rattle.array.proofs.Steps.{Standing, step-work-length, step-image-length, s
 use Rattle.array.specs.Stepping.{meetsOut, workAfter, imageAfter}
 use Rattle.stripe.proofs.Bytes.{bytes}
 use Rattle.stripe.proofs.Heart.{numbers, heart}
-use Rattle.stripe.specs.Blocks.{changed}
+use Rattle.stripe.specs.Blocks.{changed, renewedBy}
 use Rattle.stripe.specs.Invariant.{Proper, Faithful}
 use Rattle.stripe.specs.Request.{Request, advanced}
 use Rattle.history.specs.Account.{Account, Entry, counted}
@@ -110,13 +110,13 @@ module _ (w : World) (a : Account) (sure : Sure w a) (i k : ℕ) (ok : Ready (w 
       (numbers n .stepped x (requestOf st r) k (works w a sure i k ok .proper) (is-ready w a sure i k ok))
 
   faithful : (b : ℕ) → b < st .block
-      → Faithful bytes n x (requestOf st done) (rowOf st (a .row) (r .stripe) b) (rowOf st (afterRow st (a .row) e) (r .stripe) b)
+      → Faithful bytes n x (requestOf st done) (renewedBy step (works w a sure i k ok .renewed)) (rowOf st (a .row) (r .stripe) b) (rowOf st (afterRow st (a .row) e) (r .stripe) b)
       (viewOf st work′ image′ i (r .stripe) b)
   unfolding stepped advanced
   faithful b hb =
-      faithful-near bytes n x (requestOf st done) _ _ _ _ (two-below n x (requestOf st done) proper)
+      faithful-near bytes n x (requestOf st done) _ _ _ _ _ (two-below n x (requestOf st done) proper)
       (done-near st (w .work) (w .image) i r standing b hb x step (within w a sure i k ok))
-      (heart bytes n .stepped x (requestOf st r) k _ _ _ (works w a sure i k ok .proper) (works w a sure i k ok .faithful b hb)
+      (heart bytes n .stepped x (requestOf st r) k _ _ _ _ (works w a sure i k ok .proper) (works w a sure i k ok .faithful b hb)
       (is-ready w a sure i k ok) (misses x step working))
 
   sound-done : Fit st done
@@ -130,14 +130,14 @@ module _ (w : World) (a : Account) (sure : Sure w a) (i k : ℕ) (ok : Ready (w 
 
   works-on : Working st work′ image′ (a .row) (counted st (a .row) e false) i done
   unfolding stepped counted afterRow
-  works-on = record { proper = proper; faithful = faithful }
+  works-on = record { proper = proper; renewed = renewedBy step (works w a sure i k ok .renewed); faithful = faithful }
 
   -- ---- with the last one its stripe rests, and a read has its units
 
   module _ (complete-now : last ≡ true) where
     rests : Resting st image′ (afterRow st (a .row) e) (r .stripe)
     unfolding stepped
-    rests b hb = heart bytes n .ended x (requestOf st done) _ _ _ proper (faithful b hb) complete-now
+    rests b hb = heart bytes n .ended x (requestOf st done) _ _ _ _ proper (faithful b hb) complete-now
 
     -- a read's block of unit u is the row's
     unit-read : isWrite done ≡ false → (u : ℕ) → u < n → bit u (r .mask) ≡ true
@@ -148,7 +148,7 @@ module _ (w : World) (a : Account) (sure : Sure w a) (i k : ℕ) (ok : Ready (w 
         (λ b h.
         let hb : b < st .block = omega (arith, long) in
         getD-part (readAt (st .cards) (st .block) i u) (st .block) work′ b 0 hb
-        ∙ heart bytes n .ended-read x (requestOf st done) _ _ _ proper (faithful b hb) complete-now reading u (rw (lt-ltb u n hu) m)
+        ∙ heart bytes n .ended-read x (requestOf st done) _ _ _ _ proper (faithful b hb) complete-now reading u (rw (lt-ltb u n hu) m)
         ∙ row-unit st (a .row) (r .stripe) b u hu)
       where
         long : length (part (readAt (st .cards) (st .block) i u) (st .block) work′) ≡ st .block

@@ -4,7 +4,7 @@ use Prim.Native.Nat.{ℕ}
 use mathlib.Core.Bool.{Bool, true, false, cond}
 use mathlib.Core.List.{List}
 use mathlib.Core.Logic.{_⊎_, inl, inr}
-use mathlib.Core.Path.{_≡_, refl, sym, _∙_, subst}
+use mathlib.Core.Path.{_≡_, refl, subst}
 use native.Mathlib.Omega.{arith}
 use borrow.Author.Tests.{eqb-true, eqb-false}
 use lib.Dec.{eqb}
@@ -12,17 +12,14 @@ use lib.ListN.{getD, set}
 use lib.Seq.{getD-set-same}
 use Rattle.terms.proofs.Rows.{truth}
 use Rattle.geometry.specs.Limits.{none}
-use Rattle.geometry.specs.Report.{reportRefusal, marked}
+use Rattle.geometry.specs.Report.{marked}
 use Rattle.geometry.specs.declared.State.{State}
 use Rattle.graph.specs.Order.{complete, after}
 use Rattle.graph.specs.Steps.{stepOf}
 use Rattle.record.specs.Life.{free, isFinished, unitsOf, chosenAt, missingIn, stepped, afresh}
 use Rattle.record.specs.declared.Record.{Record}
-use Rattle.array.proofs.Admissions.{admit-passed}
-use Rattle.array.proofs.Collections.{collect-passed}
-use Rattle.array.proofs.Reports.{report-passed}
-use Rattle.array.proofs.Steppings.{Ready, step-passed}
-use Rattle.array.specs.Stepping.{SteppingBy, accepting, meetsOut}
+use Rattle.array.proofs.Steppings.{Ready}
+use Rattle.array.specs.Stepping.{meetsOut}
 use Rattle.history.specs.Account.{Account, Entry, withEntry, stepNoted, reported, entered, noted}
 use Rattle.history.specs.History.{History, opened, next, decayed, Whole}
 use Rattle.history.specs.World.{World, Event, admit, step, report, collect, scan, play, recordAt}
@@ -32,8 +29,8 @@ use Rattle.history.proofs.Collect.{collect-sure}
 use Rattle.history.proofs.Decay.{decay-sure}
 use Rattle.history.proofs.Done.{done-sure}
 use Rattle.history.proofs.Invariant.{Sure}
-use Rattle.history.proofs.Opened.{open-sure}
-use Rattle.history.proofs.Replies.{admit-number, step-number, collect-number, report-number, admit-taken, step-taken, collect-taken, report-taken, refused-leaves}
+use Rattle.history.proofs.Opened.{open-passed, open-sure}
+use Rattle.history.proofs.Replies.{admit-tests, admit-taken, step-tests, step-afresh, step-done, Reporting, report-tests, report-taken, collect-tests, collect-taken, refused-leaves}
 use Rattle.history.proofs.Report.{report-sure}
 use Rattle.history.proofs.Rows.{afterRow}
 use Rattle.history.proofs.Step.{afresh-sure}
@@ -58,24 +55,19 @@ module _ (w : World) (row : ℕ → List ℕ) (entry : ℕ → Entry) where
 
   module _ (sure : Sure w a) where
     -- an accepted step is done, or chosen afresh
-    module _ (i k : ℕ) (ok : Ready (w .state) (w .table) (w .work) (w .image) i k) where
+    module _ (i k : ℕ) (ok : play w (step i k) .reply .number ≡ 0) where
       abbrev r : Record
       r = recordAt w i
 
-      abbrev made : SteppingBy
-      made = accepting (w .state) (w .work) (w .image) i r k
-
-      abbrev Kept : Type 0
-      Kept =
-          Sure (record { state = w .state; table = set (w .table) i (made .stands); work = made .work; image = made .image })
-          (stepNoted a i (isFinished (getD (set (w .table) i (made .stands)) i free)))
+      tests : Ready (w .state) (w .table) (w .work) (w .image) i k
+      tests = step-tests w i k ok
 
       -- the record after it
       put-there : (r′ : Record) → getD (set (w .table) i r′) i free ≡ r′
-      put-there r′ = getD-set-same (w .table) i r′ free (omega (arith, ok .record-below, sure .right .table-right))
+      put-there r′ = getD-set-same (w .table) i r′ free (omega (arith, tests .record-below, sure .right .table-right))
 
-      step-kept : Kept
-      unfolding accepting stepNoted afterRow
+      step-kept : Sure (play w (step i k) .world) (stepNoted a i (isFinished (recordAt (play w (step i k) .world) i)))
+      unfolding stepNoted afterRow
       step-kept = go (truth meets)
         where
           meets : Bool
@@ -84,45 +76,43 @@ module _ (w : World) (row : ℕ → List ℕ) (entry : ℕ → Entry) where
           last : Bool
           last = complete (unitsOf (w .state)) (r .graph) (r .mask) (chosenAt (w .state) r) (after (r .done) k)
 
-          done : meets ≡ false → (last ≡ true) ⊎ (last ≡ false) → Kept
-          done e (inl l) = rw (e, put-there (stepped (w .state) r k), finished-last (w .state) r k, l) (done-sure w a sure i k ok e true l)
-          done e (inr l) = rw (e, put-there (stepped (w .state) r k), finished-last (w .state) r k, l) (done-sure w a sure i k ok e false l)
+          done : meets ≡ false → (last ≡ true) ⊎ (last ≡ false)
+              → Sure (play w (step i k) .world) (stepNoted a i (isFinished (recordAt (play w (step i k) .world) i)))
+          done e (inl l) =
+              rw (step-done w i k ok e, put-there (stepped (w .state) r k), finished-last (w .state) r k, l) (done-sure w a sure i k tests e true l)
+          done e (inr l) =
+              rw (step-done w i k ok e, put-there (stepped (w .state) r k), finished-last (w .state) r k, l) (done-sure w a sure i k tests e false l)
 
-          go : (meets ≡ true) ⊎ (meets ≡ false) → Kept
-          go (inl e) = rw (e, put-there (afresh (w .state) r), unfinished (w .state) r) (afresh-sure w a sure i k ok e)
+          go : (meets ≡ true) ⊎ (meets ≡ false)
+              → Sure (play w (step i k) .world) (stepNoted a i (isFinished (recordAt (play w (step i k) .world) i)))
+          go (inl e) = rw (step-afresh w i k ok e, put-there (afresh (w .state) r), unfinished (w .state) r) (afresh-sure w a sure i k tests e)
           go (inr e) = done e (truth last)
 
     -- an accepted report is of the first card: a second, different one would lose the array
-    report-kept : (c : ℕ) → reportRefusal (w .state) c ≡ 0 → reported (w .state) c .lost ≡ 0
+    report-kept : (c : ℕ) → play w (report c) .reply .number ≡ 0 → reported (w .state) c .lost ≡ 0
         → Sure (record { state = marked (w .state) c; table = w .table; work = w .work; image = w .image })
         (record { state = reported (w .state) c; row = row; entry = entry })
     report-kept c ok whole =
-        rw (report-noted (w .state) c ok)
-        (go (truth (eqb (w .state .out) none)) (rw (report-noted (w .state) c ok) at whole))
+        rw (report-noted (w .state) c (tests .another))
+        (go (truth (eqb (w .state .out) none)) (rw (report-noted (w .state) c (tests .another)) at whole))
       where
+        tests : Reporting w c ok
+        tests = report-tests w c ok
+
         go : (eqb (w .state .out) none ≡ true) ⊎ (eqb (w .state .out) none ≡ false) → marked (w .state) c .lost ≡ 0
             → Sure (record { state = marked (w .state) c; table = w .table; work = w .work; image = w .image })
             (record { state = marked (w .state) c; row = row; entry = entry })
-        go (inl f) lost = unfold marked in rw f (report-sure w a sure c (eqb-true (w .state .out) none f) (report-passed (w .state) c ok .card-below))
+        go (inl f) lost = unfold marked in rw f (report-sure w a sure c (eqb-true (w .state .out) none f) (tests .card-below))
         go (inr f) lost = let l : _≡_ {A = ℕ} 1 0 = unfold marked in (rw f at lost) in absurd (omega arith)
 
     -- an accepted call
     accepted-kept : (e : Event) → play w e .reply .number ≡ 0 → Whole (entered a e (play w e)) → Sure (play w e .world) (entered a e (play w e))
     unfolding entered withEntry Whole
     accepted-kept (admit write s mask payload) ok whole =
-        let none-refused = sym (admit-number w write s mask payload) ∙ ok in
-        rw (admit-taken w write s mask payload none-refused)
-        (admit-sure w a sure write s mask payload (admit-passed (w .state) (w .table) (w .work) (w .image) write s mask payload none-refused))
-    accepted-kept (step i k) ok whole =
-        let none-refused = sym (step-number w i k) ∙ ok in
-        rw (step-taken w i k none-refused) (step-kept i k (step-passed (w .state) (w .table) (w .work) (w .image) i k none-refused))
-    accepted-kept (report c) ok whole =
-        let none-refused = sym (report-number w c) ∙ ok in
-        rw (report-taken w c none-refused) (report-kept c none-refused whole)
-    accepted-kept (collect i result) ok whole =
-        let none-refused = sym (collect-number w i result) ∙ ok in
-        rw (collect-taken w i result none-refused)
-        (collect-sure w a sure i result (collect-passed (w .state) (w .table) (w .work) i result none-refused))
+        rw (admit-taken w write s mask payload ok) (admit-sure w a sure write s mask payload (admit-tests w write s mask payload ok))
+    accepted-kept (step i k) ok whole = step-kept i k ok
+    accepted-kept (report c) ok whole = rw (report-taken w c ok) (report-kept c ok whole)
+    accepted-kept (collect i result) ok whole = rw (collect-taken w i result ok) (collect-sure w a sure i result (collect-tests w i result ok))
     accepted-kept scan ok whole = unfold play in sure
 
     -- any call: a refused one leaves the world and the account
@@ -146,6 +136,6 @@ event-kept w a same sure =
 
 -- the invariant at the end of a history
 pub history-sure : {w : World} {a : Account} → History play w a → Whole a → Sure w a
-history-sure (opened g out table work image ok) whole = open-sure g out table work image ok
+history-sure (opened g out table work image ok) whole = open-sure g out table work image (open-passed g out table work image ok)
 history-sure (next {w} {a} h e) whole = event-kept w a (state-kept h) (history-sure h (whole-call play w a e whole)) e whole
 history-sure (decayed {w} {a} h image d) whole = decay-sure w a (history-sure h whole) image (rw (state-kept h) d)

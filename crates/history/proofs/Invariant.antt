@@ -2,7 +2,7 @@
 -- without an open request rests on the account's row, and each with one works from that row towards the row that the request will leave.
 -- Assumes nothing.
 use Prim.Native.Nat.{ℕ, _*_, _<_}
-use mathlib.Core.Bool.{true, false}
+use mathlib.Core.Bool.{Bool, true, false}
 use mathlib.Core.List.{List, []}
 use mathlib.Core.Path.{_≡_, refl, sym}
 use lib.ListN.{length}
@@ -59,11 +59,13 @@ matches-vacant st =
       nothing-due = λ e. refl;
     }
 
--- record r, number i, is open: its numbers are proper, and its stripe is faithful to the account at every byte
+-- record r, number i, is open: its numbers are proper, and its stripe is faithful to the account at every byte. The positions renewed since its
+-- admission are the same at every byte, so a block is the old one or the new one as a whole
 pub record Working (st : State) (work image : List ℕ) (row : ℕ → List ℕ) (e : Entry) (i : ℕ) (r : Record) : Type 0 where
   pub proper : Proper (unitsOf st) (missingIn st (r .stripe)) (requestOf st r)
+  pub renewed : ℕ → Bool
   pub faithful : (b : ℕ) → b < st .block
-      → Faithful bytes (unitsOf st) (missingIn st (r .stripe)) (requestOf st r) (rowOf st row (r .stripe) b)
+      → Faithful bytes (unitsOf st) (missingIn st (r .stripe)) (requestOf st r) renewed (rowOf st row (r .stripe) b)
       (rowOf st (afterRow st row e) (r .stripe) b) (viewOf st work image i (r .stripe) b)
 
 -- stripe s rests on the row at every byte

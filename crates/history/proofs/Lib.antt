@@ -8,6 +8,7 @@ pub mod Tables
 pub mod Facts
 pub mod Parities
 pub mod Near
+pub mod Replies
 -- The invariant, and what one record's turn leaves of it
 pub mod Invariant
 pub mod Turn
@@ -24,7 +25,6 @@ pub mod Report
 pub mod PutRight
 pub mod Collect
 pub mod Decay
-pub mod Replies
 pub mod Books
 pub mod Events
 -- The promise follows

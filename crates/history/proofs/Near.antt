@@ -2,7 +2,6 @@
 -- Assumes nothing.
 use Prim.Native.Nat.{ℕ, _≤_}
 use mathlib.Core.Bool.{Bool}
-use mathlib.Core.Logic.{⊎-map}
 use mathlib.Core.Path.{_≡_, _∙_}
 use native.Mathlib.Omega.{arith}
 use Rattle.stripe.proofs.Chosen.{Chosen, degraded-read, plain-read, parity-failed, large-write, reconstruct-out, small-out, small-none, reconstruct-none, chosen-graph}
@@ -34,9 +33,9 @@ pub record Near {A : Type 0} (n x : ℕ) (b b′ : Blocks A) : Type 0 where
 
 module _ (G : Group) (n x : ℕ) where
   -- the read block of X is one of the stripe's
-  pub faithful-near : (q : Request) (R R′ : ℕ → G .carrier) (b b′ : Blocks (G .carrier)) → (q .graph ≡ 2 → q .missed ≤ n) → Near n x b b′
-      → Faithful G n x q R R′ b → Faithful G n x q R R′ b′
-  faithful-near q R R′ b b′ x-below near f =
+  pub faithful-near : (q : Request) (renewed : ℕ → Bool) (R R′ : ℕ → G .carrier) (b b′ : Blocks (G .carrier)) → (q .graph ≡ 2 → q .missed ≤ n) → Near n x b b′
+      → Faithful G n x q renewed R R′ b → Faithful G n x q renewed R R′ b′
+  faithful-near q renewed R R′ b b′ x-below near f =
       record {
         old-row = f .old-row;
         new-row = f .new-row;
@@ -48,5 +47,5 @@ module _ (G : Group) (n x : ℕ) where
         computed = λ g d. near .same-new n (omega arith) ∙ f .computed g d;
         written = λ p l d e. near .same-cell p l d ∙ f .written p l d e;
         unwritten = λ p l d e u. near .same-cell p l d ∙ f .unwritten p l d e u;
-        either = λ p l d. ⊎-map (λ h. near .same-cell p l d ∙ h) (λ h. near .same-cell p l d ∙ h) (f .either p l d);
+        either = λ p l d. near .same-cell p l d ∙ f .either p l d;
       }

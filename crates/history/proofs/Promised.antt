@@ -22,24 +22,18 @@ use Rattle.record.proofs.Soundness.{sound-record, sound-ready}
 use Rattle.record.specs.Life.{free, isFree, isOpen, isFinished, unitsOf}
 use Rattle.record.specs.Sound.{allZero, legalMask, lacksNone, rightCount, soundRecord, held, lowestFree}
 use Rattle.record.specs.declared.Record.{Record}
-use Rattle.array.proofs.Admissions.{admit-lently, admit-passed}
-use Rattle.array.proofs.Collections.{collectNumber, collect-lently, collect-granted, collect-passed}
-use Rattle.array.proofs.Lent.{Lently}
-use Rattle.array.proofs.Reports.{report-lently}
-use Rattle.array.proofs.Scannings.{scan-lently}
-use Rattle.array.proofs.Steppings.{step-lently, step-granted, step-passed}
 use Rattle.array.proofs.Rank.{rank-all}
 use Rattle.array.specs.Collection.{handOver}
 use Rattle.array.specs.Lent.{rank, unitBytes}
 use Rattle.array.specs.Refusals.{resultShort, stepReady}
 use Rattle.history.specs.Account.{Account, Entry}
 use Rattle.history.specs.Promise.{Vacant, Open, Finished, Idle, Agree, blocksRead, Promise}
-use Rattle.history.specs.World.{World, Event, admit, step, report, collect, scan, play, recordAt}
+use Rattle.history.specs.World.{World, admit, step, collect, play, recordAt}
 use Rattle.history.proofs.Facts.{fits}
 use Rattle.history.proofs.Gather.{gathered-length, hand-over}
 use Rattle.history.proofs.Invariant.{Sure}
 use Rattle.history.proofs.Records.{mask-units}
-use Rattle.history.proofs.Replies.{admit-number, step-number, collect-number, report-number, scan-number, admit-taken, collect-taken}
+use Rattle.history.proofs.Replies.{admit-tests, admit-taken, step-tests, collect-tests, collect-taken, lent, step-grants, collect-grants}
 use Rattle.history.proofs.Stripes.{promised-unit, promised-parity, promised-inferred, promised-scan}
 use Rattle.history.proofs.Tables.{held-intro, holds-not}
 use Rattle.record.proofs.Clauses.{open-not-free, finished-not-free}
@@ -149,34 +143,30 @@ module _ (w : World) (row : ℕ → List ℕ) (entry : ℕ → Entry) where
     takes-vacant : (write : Bool) (s mask : ℕ) (payload : List ℕ) → play w (admit write s mask payload) .reply .number ≡ 0
         → Vacant a (play w (admit write s mask payload) .reply .first)
     takes-vacant write s mask payload ok =
-        let none-refused = sym (admit-number w write s mask payload) ∙ ok in
-        let tests = admit-passed st (w .table) (w .work) (w .image) write s mask payload none-refused in
+        let tests = admit-tests w write s mask payload ok in
         let below : lowestFree (w .table) < st .records = omega (arith, tests .some-free, sure .right .table-right) in
-        rw (admit-taken w write s mask payload none-refused)
+        rw (admit-taken w write s mask payload ok)
         (below, entry-phase (lowestFree (w .table)) 0 below (was-free (tests .some-free)))
 
     steps-open : (i k : ℕ) → play w (step i k) .reply .number ≡ 0 → Open a i
     steps-open i k ok =
-        let tests = step-passed st (w .table) (w .work) (w .image) i k (sym (step-number w i k) ∙ ok) in
+        let tests = step-tests w i k ok in
         (tests .record-below, entry-phase i 1 (tests .record-below) (tests .is-open))
 
     module _ (i : ℕ) (result : List ℕ) (ok : play w (collect i result) .reply .number ≡ 0) where
-      none-refused : collectNumber st (w .table) (w .work) i result ≡ 0
-      none-refused = sym (collect-number w i result) ∙ ok
-
       collects-finished : Finished a i
       collects-finished =
-          let tests = collect-passed st (w .table) (w .work) i result none-refused in
+          let tests = collect-tests w i result ok in
           (tests .record-below, entry-phase i 2 (tests .record-below) (tests .is-finished))
 
       counts : play w (collect i result) .reply ≡ accepted (entry i .steps) 0
       counts =
-          rw (collect-taken w i result none-refused)
+          rw (collect-taken w i result ok)
           (ap (λ (c : ℕ). accepted c 0) (agree i (collects-finished .0) .same-count))
 
       collects : play w (collect i result) .result ≡ entry i .due ++ drop (length (entry i .due)) result
       collects =
-          rw (collect-taken w i result none-refused, agree i (collects-finished .0) .same-kind, agree i (collects-finished .0) .same-mask)
+          rw (collect-taken w i result ok, agree i (collects-finished .0) .same-kind, agree i (collects-finished .0) .same-mask)
           (handed i collects-finished result)
 
     -- ---- counts
@@ -206,25 +196,13 @@ module _ (w : World) (row : ℕ → List ℕ) (entry : ℕ → Entry) where
             let count = fits (sure .right) i h f .right-count in
             leb-true (r .count) (2 * unitsOf st + 3) (and-right (lacksNone st r) _ (and-right (isFinished r) _ (rw o at count)))
 
-    -- ---- what is lent is right
-
-    lent-right : (e : Event) → Lently (play w e .reply .number)
-    lent-right (admit write s mask payload) =
-        rw (admit-number w write s mask payload) (admit-lently st (w .table) (w .work) (w .image) write s mask payload (sure .right))
-    lent-right (step i k) = rw (step-number w i k) (step-lently st (w .table) (w .work) (w .image) i k (sure .right))
-    lent-right (report c) = rw (report-number w c) (report-lently st c (sure .right .limits) (sure .right .whole))
-    lent-right (collect i result) = rw (collect-number w i result) (collect-lently st (w .table) (w .work) i result (w .image) (sure .right))
-    lent-right scan = rw (scan-number w) (scan-lently st (w .table) (w .image) (w .work) (sure .right))
-
     -- ---- an open record has a step
 
     goes-on : (i : ℕ) → Open a i → (k : ℕ) × (play w (step i k) .reply .number ≡ 0)
     unfolding stepReady
     goes-on i o =
-        let ready = sound-ready st (recordAt w i) (sound-record st (w .table) (sure .right .is-sound) i) (open-record i o) in (
-          ready .0,
-          step-number w i (ready .0) ∙ step-granted st (w .table) (w .work) (w .image) i (ready .0) (record { right = sure .right; record-below = o .0; is-open = open-record i o; is-ready = ready .1 }),
-        )
+        let ready = sound-ready st (recordAt w i) (sound-record st (w .table) (sure .right .is-sound) i) (open-record i o) in
+        (ready .0, step-grants w (sure .right) i (ready .0) (o .0) (open-record i o) (ready .1))
 
     promised : Promise play w a
     promised =
@@ -237,9 +215,7 @@ module _ (w : World) (row : ℕ → List ℕ) (entry : ℕ → Entry) where
           reads = reads;
           counts = counts;
           collects = collects;
-          collectable = λ i result f room.
-              collect-number w i result
-              ∙ collect-granted st (w .table) (w .work) i result (w .image) (sure .right) (record { record-below = f .0; is-finished = finished-record i f; room = roomy i f result room });
+          collectable = λ i result f room. collect-grants w (sure .right) i result (f .0) (finished-record i f) (roomy i f result room);
           units = λ L h idle. promised-unit w a sure L h (not-held _ idle);
           parity = λ s h idle. promised-parity w a sure s h (not-held s idle);
           inferred = λ L h idle. promised-inferred w a sure L h (not-held _ idle);
@@ -247,7 +223,7 @@ module _ (w : World) (row : ℕ → List ℕ) (entry : ℕ → Entry) where
           most = most;
           most-open = most-open;
           is-sound = sure .right .is-sound;
-          lent-right = lent-right;
+          lent-right = lent w (sure .right);
           progress = goes-on;
         }
 

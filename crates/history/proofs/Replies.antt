@@ -1,27 +1,33 @@
--- What comes of a call, as laws: the number that it answers is that of its table of refusals, an accepted one answers and leaves what its row of
--- document 01 says, and a refused one leaves the world.
+-- What comes of a call, as laws over its answer's number: what an accepted one has passed, answers and leaves, that a refused one leaves the world,
+-- and when one is accepted. Here, in Opened and in Unseen and Scans the calls' definitions are taken apart, and nowhere else.
 -- Assumes nothing.
-use Prim.Native.Nat.{ℕ}
-use mathlib.Core.Bool.{Bool, cond}
+use Prim.Native.Nat.{ℕ, _<_}
+use mathlib.Core.Bool.{Bool, true, false, cond}
 use mathlib.Core.List.{List, []}
-use mathlib.Core.Path.{_≡_, refl, _∙_}
+use mathlib.Core.Logic.{_⊎_}
+use mathlib.Core.Path.{_≡_, refl, sym, ap, _∙_}
 use lib.ListN.{set}
 use Rattle.terms.specs.Reply.{accepted, refused}
+use Rattle.geometry.specs.Limits.{none}
 use Rattle.geometry.specs.Report.{reportRefusal, marked}
-use Rattle.record.specs.Life.{free, isWrite, admitted}
-use Rattle.record.specs.Sound.{lowestFree}
+use Rattle.parity.specs.Parity.{rightParity}
+use Rattle.record.specs.Life.{free, isOpen, isFinished, isWrite, missingIn, unitsOf, admitted, stepped, afresh}
+use Rattle.record.specs.Sound.{held, lowestFree}
 use Rattle.array.proofs.Admissions as admissions
-use Rattle.array.proofs.Admissions.{admitNumber}
+use Rattle.array.proofs.Admissions.{Admitting, admitNumber}
 use Rattle.array.proofs.Collections as collections
-use Rattle.array.proofs.Collections.{collectNumber}
+use Rattle.array.proofs.Collections.{Collecting, collectNumber}
+use Rattle.array.proofs.Lent.{Right}
 use Rattle.array.proofs.Reports as reports
-use Rattle.array.proofs.Scannings as scans
-use Rattle.array.proofs.Scannings.{scanNumber}
+use Rattle.array.proofs.Reports.{Reports}
+use Rattle.array.proofs.Scannings as scannings
 use Rattle.array.proofs.Steppings as steppings
-use Rattle.array.proofs.Steppings.{stepNumber}
+use Rattle.array.proofs.Steppings.{Ready, stepNumber}
 use Rattle.array.specs.Admission.{keepUnits}
 use Rattle.array.specs.Collection.{handOver}
-use Rattle.array.specs.Stepping.{accepting}
+use Rattle.array.specs.Refusals.{resultShort, stepReady}
+use Rattle.array.specs.Stepping.{accepting, meetsOut, workAfter, imageAfter}
+use Rattle.graph.specs.Steps.{stepOf}
 use Rattle.history.specs.World.{World, Event, admit, step, report, collect, scan, play, recordAt}
 
 module _ (w : World) where
@@ -30,95 +36,145 @@ module _ (w : World) where
   unfolding play
   admit-number write s mask payload = admissions.admit-number (w .state) (w .table) (w .work) (w .image) write s mask payload
 
+  collect-number : (i : ℕ) (result : List ℕ) → play w (collect i result) .reply .number ≡ collectNumber (w .state) (w .table) (w .work) i result
+  unfolding play
+  collect-number i result = collections.collect-number (w .state) (w .table) (w .work) i result
+
+  report-number : (c : ℕ) → play w (report c) .reply .number ≡ reportRefusal (w .state) c
+  unfolding play
+  report-number c = reports.report-number (w .state) c
+
   pub step-number : (i k : ℕ) → play w (step i k) .reply .number ≡ stepNumber (w .state) (w .table) (w .work) (w .image) i k
   unfolding play
   step-number i k = steppings.step-number (w .state) (w .table) (w .work) (w .image) i k
 
-  pub report-number : (c : ℕ) → play w (report c) .reply .number ≡ reportRefusal (w .state) c
-  unfolding play
-  report-number c = reports.report-number (w .state) c
+  -- ---- an accepted call: what it has passed, and what it answers and leaves
 
-  pub collect-number : (i : ℕ) (result : List ℕ) → play w (collect i result) .reply .number ≡ collectNumber (w .state) (w .table) (w .work) i result
-  unfolding play
-  collect-number i result = collections.collect-number (w .state) (w .table) (w .work) i result
+  module _ (write : Bool) (s mask : ℕ) (payload : List ℕ) (ok : play w (admit write s mask payload) .reply .number ≡ 0) where
+    pub admit-tests : Admitting (w .state) (w .table) (w .work) (w .image) write s mask payload
+    admit-tests = admissions.admit-passed (w .state) (w .table) (w .work) (w .image) write s mask payload (sym (admit-number write s mask payload) ∙ ok)
 
-  pub scan-number : play w scan .reply .number ≡ scanNumber (w .state) (w .table) (w .image)
-  unfolding play
-  scan-number = scans.scan-number (w .state) (w .table) (w .image)
+    pub admit-taken : play w (admit write s mask payload)
+        ≡ record {
+          reply = accepted (lowestFree (w .table)) 0;
+          world = record {
+            state = w .state;
+            table = set (w .table) (lowestFree (w .table)) (admitted (w .state) write s mask);
+            work = cond write (keepUnits (w .state) (lowestFree (w .table)) mask payload (w .work)) (w .work);
+            image = w .image;
+          };
+          result = [];
+        }
+    unfolding play
+    admit-taken =
+        rw (admissions.admit-accepted (w .state) (w .table) (w .work) (w .image) write s mask payload (sym (admit-number write s mask payload) ∙ ok))
 
-  -- ---- an accepted call
+  module _ (i k : ℕ) (ok : play w (step i k) .reply .number ≡ 0) where
+    pub step-tests : Ready (w .state) (w .table) (w .work) (w .image) i k
+    step-tests = steppings.step-passed (w .state) (w .table) (w .work) (w .image) i k (sym (step-number i k) ∙ ok)
 
-  pub admit-taken : (write : Bool) (s mask : ℕ) (payload : List ℕ) → admitNumber (w .state) (w .table) (w .work) (w .image) write s mask payload ≡ 0
-      → play w (admit write s mask payload)
-      ≡ record {
-        reply = accepted (lowestFree (w .table)) 0;
-        world = record {
-          state = w .state;
-          table = set (w .table) (lowestFree (w .table)) (admitted (w .state) write s mask);
-          work = cond write (keepUnits (w .state) (lowestFree (w .table)) mask payload (w .work)) (w .work);
-          image = w .image;
-        };
-        result = [];
-      }
-  unfolding play
-  admit-taken write s mask payload e = rw (admissions.admit-accepted (w .state) (w .table) (w .work) (w .image) write s mask payload e)
+    -- its card is out: chosen afresh
+    pub step-afresh : meetsOut (missingIn (w .state) (recordAt w i .stripe)) (stepOf (unitsOf (w .state)) k) ≡ true
+        → play w (step i k)
+        ≡ record {
+          reply = accepted (afresh (w .state) (recordAt w i) .graph) 0;
+          world = record { state = w .state; table = set (w .table) i (afresh (w .state) (recordAt w i)); work = w .work; image = w .image };
+          result = [];
+        }
+    unfolding play accepting
+    step-afresh meets = rw (steppings.step-accepted (w .state) (w .table) (w .work) (w .image) i k (sym (step-number i k) ∙ ok), meets)
 
-  pub step-taken : (i k : ℕ) → stepNumber (w .state) (w .table) (w .work) (w .image) i k ≡ 0
-      → play w (step i k)
-      ≡ (let a = accepting (w .state) (w .work) (w .image) i (recordAt w i) k in record {
-        reply = a .reply;
-        world = record { state = w .state; table = set (w .table) i (a .stands); work = a .work; image = a .image };
-        result = [];
-      })
-  unfolding play
-  step-taken i k e = rw (steppings.step-accepted (w .state) (w .table) (w .work) (w .image) i k e)
+    -- its card works: done
+    pub step-done : meetsOut (missingIn (w .state) (recordAt w i .stripe)) (stepOf (unitsOf (w .state)) k) ≡ false
+        → play w (step i k)
+        ≡ record {
+          reply = accepted 0 0;
+          world = record {
+            state = w .state;
+            table = set (w .table) i (stepped (w .state) (recordAt w i) k);
+            work = workAfter (w .state) i (recordAt w i) (stepOf (unitsOf (w .state)) k) (w .work) (w .image);
+            image = imageAfter (w .state) i (recordAt w i) (stepOf (unitsOf (w .state)) k) (w .work) (w .image);
+          };
+          result = [];
+        }
+    unfolding play accepting
+    step-done works = rw (steppings.step-accepted (w .state) (w .table) (w .work) (w .image) i k (sym (step-number i k) ∙ ok), works)
 
-  pub report-taken : (c : ℕ) → reportRefusal (w .state) c ≡ 0
-      → play w (report c)
-      ≡ record {
-        reply = accepted 0 0;
-        world = record { state = marked (w .state) c; table = w .table; work = w .work; image = w .image };
-        result = [];
-      }
-  unfolding play
-  report-taken c e = rw (reports.report-accepted (w .state) c e)
+  module _ (c : ℕ) (ok : play w (report c) .reply .number ≡ 0) where
+    pub report-tests : Reports (w .state) c
+    report-tests = reports.report-passed (w .state) c (sym (report-number c) ∙ ok)
 
-  pub collect-taken : (i : ℕ) (result : List ℕ) → collectNumber (w .state) (w .table) (w .work) i result ≡ 0
-      → play w (collect i result)
-      ≡ record {
-        reply = accepted (recordAt w i .count) 0;
-        world = record { state = w .state; table = set (w .table) i free; work = w .work; image = w .image };
-        result = cond (isWrite (recordAt w i)) result (handOver (w .state) i (recordAt w i .mask) (w .work) result);
-      }
-  unfolding play
-  collect-taken i result e = rw (collections.collect-accepted (w .state) (w .table) (w .work) i result e)
+    pub report-taken : play w (report c)
+        ≡ record {
+          reply = accepted 0 0;
+          world = record { state = marked (w .state) c; table = w .table; work = w .work; image = w .image };
+          result = [];
+        }
+    unfolding play
+    report-taken = rw (reports.report-accepted (w .state) c (sym (report-number c) ∙ ok))
 
-  -- ---- a refused call
+  module _ (i : ℕ) (result : List ℕ) (ok : play w (collect i result) .reply .number ≡ 0) where
+    pub collect-tests : Collecting (w .state) (w .table) (w .work) i result
+    collect-tests = collections.collect-passed (w .state) (w .table) (w .work) i result (sym (collect-number i result) ∙ ok)
 
-  pub admit-left : (write : Bool) (s mask : ℕ) (payload : List ℕ) → ¬ (admitNumber (w .state) (w .table) (w .work) (w .image) write s mask payload ≡ 0)
-      → play w (admit write s mask payload)
-      ≡ record { reply = refused (admitNumber (w .state) (w .table) (w .work) (w .image) write s mask payload); world = w; result = [] }
-  unfolding play
-  admit-left write s mask payload d = rw (admissions.admit-refused (w .state) (w .table) (w .work) (w .image) write s mask payload d)
+    pub collect-taken : play w (collect i result)
+        ≡ record {
+          reply = accepted (recordAt w i .count) 0;
+          world = record { state = w .state; table = set (w .table) i free; work = w .work; image = w .image };
+          result = cond (isWrite (recordAt w i)) result (handOver (w .state) i (recordAt w i .mask) (w .work) result);
+        }
+    unfolding play
+    collect-taken = rw (collections.collect-accepted (w .state) (w .table) (w .work) i result (sym (collect-number i result) ∙ ok))
 
-  pub step-left : (i k : ℕ) → ¬ (stepNumber (w .state) (w .table) (w .work) (w .image) i k ≡ 0)
-      → play w (step i k) ≡ record { reply = refused (stepNumber (w .state) (w .table) (w .work) (w .image) i k); world = w; result = [] }
-  unfolding play
-  step-left i k d = rw (steppings.step-refused (w .state) (w .table) (w .work) (w .image) i k d)
+  -- ---- a refused call leaves the world
 
-  pub report-left : (c : ℕ) → ¬ (reportRefusal (w .state) c ≡ 0)
-      → play w (report c) ≡ record { reply = refused (reportRefusal (w .state) c); world = w; result = [] }
-  unfolding play
-  report-left c d = rw (reports.report-refused (w .state) c d)
+  pub admit-left : (write : Bool) (s mask : ℕ) (payload : List ℕ) → ¬ (play w (admit write s mask payload) .reply .number ≡ 0)
+      → play w (admit write s mask payload) ≡ record { reply = refused (play w (admit write s mask payload) .reply .number); world = w; result = [] }
+  admit-left write s mask payload d =
+      left ∙ ap (λ (m : ℕ). record { reply = refused m; world = w; result = [] }) (sym (admit-number write s mask payload))
+    where
+      left : play w (admit write s mask payload)
+          ≡ record { reply = refused (admitNumber (w .state) (w .table) (w .work) (w .image) write s mask payload); world = w; result = [] }
+      left = unfold play in
+          rw (admissions.admit-refused (w .state) (w .table) (w .work) (w .image) write s mask payload (λ z. d (admit-number write s mask payload ∙ z)))
 
-  pub collect-left : (i : ℕ) (result : List ℕ) → ¬ (collectNumber (w .state) (w .table) (w .work) i result ≡ 0)
-      → play w (collect i result) ≡ record { reply = refused (collectNumber (w .state) (w .table) (w .work) i result); world = w; result = result }
-  unfolding play
-  collect-left i result d = rw (collections.collect-refused (w .state) (w .table) (w .work) i result d)
+  pub step-left : (i k : ℕ) → ¬ (play w (step i k) .reply .number ≡ 0)
+      → play w (step i k) ≡ record { reply = refused (play w (step i k) .reply .number); world = w; result = [] }
+  step-left i k d = left ∙ ap (λ (m : ℕ). record { reply = refused m; world = w; result = [] }) (sym (step-number i k))
+    where
+      left : play w (step i k) ≡ record { reply = refused (stepNumber (w .state) (w .table) (w .work) (w .image) i k); world = w; result = [] }
+      left = unfold play in rw (steppings.step-refused (w .state) (w .table) (w .work) (w .image) i k (λ z. d (step-number i k ∙ z)))
 
   pub refused-leaves : (e : Event) → ¬ (play w e .reply .number ≡ 0) → play w e .world ≡ w
-  refused-leaves (admit write s mask payload) d = rw (admit-left write s mask payload (λ z. d (admit-number write s mask payload ∙ z)))
-  refused-leaves (step i k) d = rw (step-left i k (λ z. d (step-number i k ∙ z)))
-  refused-leaves (report c) d = rw (report-left c (λ z. d (report-number c ∙ z)))
-  refused-leaves (collect i result) d = rw (collect-left i result (λ z. d (collect-number i result ∙ z)))
+  refused-leaves (admit write s mask payload) d = rw (admit-left write s mask payload d)
+  refused-leaves (step i k) d = rw (step-left i k d)
+  refused-leaves (report c) d = unfold play in rw (reports.report-refused (w .state) c (λ z. d (report-number c ∙ z)))
+  refused-leaves (collect i result) d =
+      unfold play in rw (collections.collect-refused (w .state) (w .table) (w .work) i result (λ z. d (collect-number i result ∙ z)))
   refused-leaves scan d = unfold play in refl
+
+  -- ---- what is lent is right: no call is refused by 1 to 4, and when a step, a collect and a scan are accepted
+
+  module _ (right : Right (w .state) (w .table) (w .work) (w .image)) where
+    pub lent : (e : Event) → (play w e .reply .number ≡ 0) ⊎ (4 < play w e .reply .number)
+    lent (admit write s mask payload) =
+        rw (admit-number write s mask payload) (admissions.admit-lently (w .state) (w .table) (w .work) (w .image) write s mask payload right)
+    lent (step i k) = rw (step-number i k) (steppings.step-lently (w .state) (w .table) (w .work) (w .image) i k right)
+    lent (report c) = rw (report-number c) (reports.report-lently (w .state) c (right .limits) (right .whole))
+    lent (collect i result) = rw (collect-number i result) (collections.collect-lently (w .state) (w .table) (w .work) i result (w .image) right)
+    lent scan =
+        unfold play in rw (scannings.scan-number (w .state) (w .table) (w .image)) (scannings.scan-lently (w .state) (w .table) (w .image) (w .work) right)
+
+    pub step-grants : (i k : ℕ) → i < w .state .records → isOpen (recordAt w i) ≡ true → stepReady (w .state) (recordAt w i) k ≡ true
+        → play w (step i k) .reply .number ≡ 0
+    step-grants i k h o ready = step-number i k ∙ steppings.step-granted (w .state) (w .table) (w .work) (w .image) i k (record { right = right; record-below = h; is-open = o; is-ready = ready })
+
+    pub collect-grants : (i : ℕ) (result : List ℕ) → i < w .state .records → isFinished (recordAt w i) ≡ true
+        → resultShort (w .state) (recordAt w i) result ≡ false → play w (collect i result) .reply .number ≡ 0
+    collect-grants i result h f room =
+        collect-number i result ∙ collections.collect-granted (w .state) (w .table) (w .work) i result (w .image) right (record { record-below = h; is-finished = f; room = room })
+
+    pub scan-grants : w .state .out ≡ none → rightParity (w .state .cards) (w .state .stripes) (w .state .block) (w .image) (held (w .table)) ≡ true
+        → play w scan .reply ≡ accepted 0 0
+    unfolding play
+    scan-grants out parity = scannings.scan-granted (w .state) (w .table) (w .image) (w .work) right out parity

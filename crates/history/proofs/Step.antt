@@ -148,8 +148,9 @@ module _ (w : World) (a : Account) (sure : Sure w a) (i k : ℕ) (ok : Ready (w 
     works-afresh =
         record {
           proper = proper;
+          renewed = works .renewed;
           faithful = λ b hb.
-              heart bytes n .afresh x (requestOf (w .state) r) k _ _ _ (works .proper) (works .faithful b hb) x-below is-ready on-step;
+              heart bytes n .afresh x (requestOf (w .state) r) k _ _ _ _ (works .proper) (works .faithful b hb) x-below is-ready on-step;
         }
 
     turn : Turn w a i (r .stripe) chosen (w .work) (w .image) (a .row) (counted (w .state) (a .row) (a .entry i) false)

@@ -24,7 +24,6 @@ use Rattle.geometry.specs.declared.State.{State}
 use Rattle.parity.specs.Parity.{parityByte}
 use Rattle.record.specs.Life.{unitsOf}
 use Rattle.record.specs.Sound.{held}
-use Rattle.array.proofs.Scannings.{scan-granted}
 use Rattle.stripe.proofs.Bytes.{sum-xor}
 use Rattle.stripe.specs.Invariant.{IsRow}
 use Rattle.history.specs.Account.{Account}
@@ -36,6 +35,7 @@ use Rattle.history.proofs.Parities.{right-intro}
 use Rattle.history.proofs.Places.{block-back, unit-below, stripe-below}
 use Rattle.history.proofs.Positions.{parity-sum}
 use Rattle.history.proofs.ReadOff.{block-byte, block-size, rest-byte, rest-size}
+use Rattle.history.proofs.Replies.{scan-grants}
 use Rattle.history.proofs.Rows.{unitByte, rowOf, row-unit, row-parity}
 
 module _ (w : World) (a : Account) (sure : Sure w a) where
@@ -114,7 +114,7 @@ module _ (w : World) (a : Account) (sure : Sure w a) where
             (λ f. eqb-false p u e (f ∙ sym (missing-position st placing s u (omega arith) out))))
 
     -- and with none missing the parity is right
-    pub parity-right : st .out ≡ none → (b : ℕ) → b < st .block → parityByte N (st .stripes) (st .block) (w .image) s b ≡ 0
+    parity-right : st .out ≡ none → (b : ℕ) → b < st .block → parityByte N (st .stripes) (st .block) (w .image) s b ≡ 0
     unfolding outIn
     parity-right out b hb =
         parity-sum N (st .stripes) (st .block) placing (w .image) s b
@@ -143,7 +143,6 @@ module _ (w : World) (a : Account) (sure : Sure w a) where
   promised-parity s hs idle works = parity-block s hs idle works
 
   pub promised-scan : st .out ≡ none → play w scan .reply ≡ accepted 0 0
-  unfolding play
   promised-scan out =
-      scan-granted st (w .table) (w .image) (w .work) (sure .right) out
+      scan-grants w (sure .right) out
       (right-intro N (st .stripes) (st .block) (w .image) (held (w .table)) (λ s b hs hb idle. parity-right s hs idle out b hb))

@@ -186,13 +186,14 @@ module _ (w : World) (a : Account) (sure : Sure w a) (i s : ℕ) (r′ : Record)
         let ht = open-fits (sure .right) j h o .stripe-below in
         record {
           proper = sure .working j h o .proper;
+          renewed = sure .working j h o .renewed;
           faithful = λ b hb.
               rw (
                 row-there t b off ht,
                 row-cong (w .state) (afterRow (w .state) (a .row) (a .entry j)) t b (afterRow (w .state) row′ (a .entry j))
                     (λ u hu. after-cong (w .state) (a .row) (a .entry j) row′ (blockOf (w .state .cards) t u) (turn .row-others t u off ht hu)),
               )
-              (faithful-near bytes (unitsOf (w .state)) (missingIn (w .state) t) (requestOf (w .state) (recordAt w j)) _ _ _ _
+              (faithful-near bytes (unitsOf (w .state)) (missingIn (w .state) t) (requestOf (w .state) (recordAt w j)) _ _ _ _ _
               (two-below (unitsOf (w .state)) (missingIn (w .state) t) (requestOf (w .state) (recordAt w j)) (sure .working j h o .proper))
               (record {
                 same-cell = λ p l m. turn .cell-others (cardOfPosition (w .state) t p) t b off ht hb;

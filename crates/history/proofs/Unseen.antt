@@ -3,7 +3,7 @@
 use Prim.Native.Nat.{ℕ, _<_}
 use mathlib.Core.Bool.{Bool, not, _&&_}
 use mathlib.Core.List.{List}
-use mathlib.Core.Path.{_≡_, ap}
+use mathlib.Core.Path.{_≡_, sym, ap, _∙_}
 use native.Mathlib.Omega.{arith}
 use lib.Dec.{eqb, ltb}
 use Rattle.terms.proofs.Sets.{xorTo-cong, lowest-cong}
@@ -12,27 +12,17 @@ use Rattle.geometry.specs.Placement.{outIn}
 use Rattle.geometry.specs.Store.{imageWrong, imageSize}
 use Rattle.geometry.specs.declared.State.{State}
 use Rattle.parity.specs.Parity.{byteAt, parityByte, wrongByte, wrongStripe, rightParity, disagreement}
-use Rattle.record.specs.declared.Record.{Record}
-use Rattle.array.proofs.Admissions.{admitNumber}
-use Rattle.array.proofs.Steppings.{stepNumber}
 use Rattle.array.specs.Refusals.{admitRefusal, stepRefusal}
 use Rattle.history.specs.History.{Decayed}
+use Rattle.history.specs.World.{World, admit, step, play, withImage}
+use Rattle.history.proofs.Replies.{admit-number, step-number}
 
 -- two images of a state that agree on the cards that work
 module _ (st : State) (image image′ : List ℕ) (same : Decayed st image image′) where
-  -- they are as long, so a call is refused for both or for neither
+  -- they are as long
   pub wrong-same : imageWrong st image′ ≡ imageWrong st image
   unfolding imageWrong
   wrong-same = ap (λ (k : ℕ). not (eqb k (imageSize (st .cards) (st .stripes) (st .block)))) (same .same-length)
-
-  pub admit-same : (table : List Record) (work : List ℕ) (write : Bool) (s mask : ℕ) (payload : List ℕ)
-      → admitNumber st table work image′ write s mask payload ≡ admitNumber st table work image write s mask payload
-  unfolding admitRefusal
-  admit-same table work write s mask payload = rw wrong-same
-
-  pub step-same : (table : List Record) (work : List ℕ) (i k : ℕ) → stepNumber st table work image′ i k ≡ stepNumber st table work image i k
-  unfolding stepRefusal
-  step-same table work i k = rw wrong-same
 
   -- ---- with none out they agree on every card
 
@@ -67,3 +57,15 @@ module _ (st : State) (image image′ : List ℕ) (same : Decayed st image image
     unfolding disagreement
     disagreement-same pass h =
         rw (wrong-stripe-same pass, wrong-byte-same (wrongStripe (st .cards) (st .stripes) (st .block) image pass) h)
+
+-- an admission and a step are refused for both or for neither
+module _ (w : World) (image′ : List ℕ) (same : Decayed (w .state) (w .image) image′) where
+  pub admit-same : (write : Bool) (s mask : ℕ) (payload : List ℕ)
+      → play (withImage w image′) (admit write s mask payload) .reply .number ≡ play w (admit write s mask payload) .reply .number
+  unfolding admitRefusal
+  admit-same write s mask payload =
+      admit-number (withImage w image′) write s mask payload ∙ rw (wrong-same (w .state) (w .image) image′ same) (sym (admit-number w write s mask payload))
+
+  pub step-same : (i k : ℕ) → play (withImage w image′) (step i k) .reply .number ≡ play w (step i k) .reply .number
+  unfolding stepRefusal
+  step-same i k = step-number (withImage w image′) i k ∙ rw (wrong-same (w .state) (w .image) image′ same) (sym (step-number w i k))

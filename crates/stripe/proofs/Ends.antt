@@ -29,7 +29,7 @@ pub begun-faithful : (G : Group) (n x : ℕ) (write : Bool) (mask : ℕ) (R R′
     → (write ≡ false → (p : ℕ) → R′ p ≡ R p)
     → ((p : ℕ) → unmasked n mask p ≡ true → R′ p ≡ R p)
     → (write ≡ true → (p : ℕ) → masked n mask p ≡ true → b .new p ≡ R′ p)
-    → Faithful G n x (begun n write mask x) R R′ b
+    → Faithful G n x (begun n write mask x) (λ p. false) R R′ b
 unfolding begun isDone numberOf
 begun-faithful G n x write mask R R′ b I row same others-same kept =
     record {
@@ -43,12 +43,12 @@ begun-faithful G n x write mask R R′ b I row same others-same kept =
       computed = λ f d. true≢false (sym d ∙ bit-none (n + 1));
       written = λ p l h d. true≢false (sym d ∙ bit-none (n + 2 + p));
       unwritten = λ p l h d u. I .holds p l h;
-      either = λ p l h. inl (I .holds p l h);
+      either = λ p l h. I .holds p l h;
     }
 
 -- and for the row after the request
 pub begun-after : (G : Group) (n x : ℕ) (write : Bool) (mask : ℕ) (R : ℕ → G .carrier) (b : Blocks (G .carrier))
-    → Idle G n x R (b .cell) → Faithful G n x (begun n write mask x) R (rowAfter G n write mask R (b .new)) b
+    → Idle G n x R (b .cell) → Faithful G n x (begun n write mask x) (λ p. false) R (rowAfter G n write mask R (b .new)) b
 begun-after G n x write mask R b I =
     begun-faithful G n x write mask R (rowAfter G n write mask R (b .new)) b I
     (after-row G n mask R (b .new) write (I .row))
@@ -56,9 +56,9 @@ begun-after G n x write mask R b I =
     (after-others G n mask R (b .new) write)
     (after-new G n mask R (b .new) write)
 
-module _ (G : Group) (n x : ℕ) (q : Request) (R R′ : ℕ → G .carrier) (b : Blocks (G .carrier))
+module _ (G : Group) (n x : ℕ) (q : Request) (renewed : ℕ → Bool) (R R′ : ℕ → G .carrier) (b : Blocks (G .carrier))
     (P : Proper n x q)
-    (F : Faithful G n x q R R′ b)
+    (F : Faithful G n x q renewed R R′ b)
     (all : complete n (q .graph) (q .mask) (q .missed) (q .done) ≡ true)
   where
     -- a working position was not missing when the graph was chosen
@@ -81,12 +81,12 @@ module _ (G : Group) (n x : ℕ) (q : Request) (R R′ : ℕ → G .carrier) (b 
         by-write : (p : ℕ) → p ≤ n → ¬ (p ≡ x)
             → (writes n (q .graph) (q .mask) (q .missed) p ≡ true) ⊎ (unmasked n (q .mask) p ≡ true) → b .cell p ≡ R′ p
         by-write p l h (inl e) = F .written p l h (wrote p l e)
-        by-write p l h (inr u) = outside-cell G n x q R R′ b P F p l h u ∙ sym (F .others-same p u)
+        by-write p l h (inr u) = outside-cell G n x q renewed R R′ b P F p l h u ∙ sym (F .others-same p u)
 
         holds : (p : ℕ) → p ≤ n → ¬ (p ≡ x) → (q .write ≡ true) ⊎ (q .write ≡ false) → b .cell p ≡ R′ p
         holds p l h (inl w) =
             by-write p l h (writes-all n (q .mask) (q .missed) p (row-of n x q P) w l (not-missed p l h))
-        holds p l h (inr w) = read-cell G n x q R R′ b P F w p l h ∙ sym (F .read-same w p)
+        holds p l h (inr w) = read-cell G n x q renewed R R′ b P F w p l h ∙ sym (F .read-same w p)
 
     -- a read's blocks are the row's
     pub ended-read : q .write ≡ false → (p : ℕ) → masked n (q .mask) p ≡ true → b .got p ≡ R p

@@ -4,7 +4,8 @@
 -- and every event keeps them. Of the request's numbers, Proper: its graph is the table's choice for the position that was missing when it was
 -- chosen, its done steps are in order, and its count with the steps still wanting stays within 2n+3. Of the blocks, Faithful: with R the row
 -- before the request and R′ the row after it, a done read holds R, a done exclusive or holds X of R or parity of R′, a working position holds
--- R′ once it is written, and R before wherever a step or a fresh choice still counts on it; and always one of the two.
+-- R′ once it is written, and R before wherever a step or a fresh choice still counts on it; and always one of the two,
+-- by whether it was written since admission.
 --
 -- Why nothing is lost when a card dies half way: units already written are new, so a graph that is chosen afresh must not need old ones. Graphs
 -- 4, 5 and 6 need none but units outside the mask, which no write touches. Graph 3 does: it takes parity and the masked units as a consistent
@@ -16,7 +17,7 @@ use mathlib.Core.Bool.{Bool, true, false}
 use mathlib.Core.Path.{_≡_}
 use Rattle.graph.specs.Steps.{stepOf, masked}
 use Rattle.graph.proofs.Laws.{progress}
-use Rattle.stripe.specs.Blocks.{Blocks, On, Alike, changed, performed}
+use Rattle.stripe.specs.Blocks.{Blocks, On, Alike, changed, performed, renewedBy}
 use Rattle.stripe.specs.Group.{Group, sumTo, others}
 use Rattle.stripe.specs.Invariant.{Proper, Idle, Faithful, rowAfter}
 use Rattle.stripe.specs.Request.{Request, readyAt, finished, begun, advanced, chosenAfresh}
@@ -66,27 +67,27 @@ numbers n =
 pub record Heart (G : Group) (n : ℕ) : Type 0 where
   -- a request is admitted to an idle stripe: the row after it has the new units and their parity
   pub started : (x : ℕ) (write : Bool) (mask : ℕ) (R : ℕ → G .carrier) (b : Blocks (G .carrier)) → Idle G n x R (b .cell)
-      → Faithful G n x (begun n write mask x) R (rowAfter G n write mask R (b .new)) b
+      → Faithful G n x (begun n write mask x) (λ p. false) R (rowAfter G n write mask R (b .new)) b
   -- a ready step on a working position is done
-  pub stepped : (x : ℕ) (q : Request) (k : ℕ) (R R′ : ℕ → G .carrier) (b : Blocks (G .carrier)) → Proper n x q → Faithful G n x q R R′ b
-      → readyAt n q k ≡ true → ¬ On x (stepOf n k) → Faithful G n x (advanced q k) R R′ (performed G n q (stepOf n k) b)
+  pub stepped : (x : ℕ) (q : Request) (k : ℕ) (renewed : ℕ → Bool) (R R′ : ℕ → G .carrier) (b : Blocks (G .carrier)) → Proper n x q → Faithful G n x q renewed R R′ b
+      → readyAt n q k ≡ true → ¬ On x (stepOf n k) → Faithful G n x (advanced q k) (renewedBy (stepOf n k) renewed) R R′ (performed G n q (stepOf n k) b)
   -- a ready step meets the missing position: the graph is chosen afresh, and no block is altered
-  pub afresh : (x : ℕ) (q : Request) (k : ℕ) (R R′ : ℕ → G .carrier) (b : Blocks (G .carrier)) → Proper n x q → Faithful G n x q R R′ b
-      → x ≤ n → readyAt n q k ≡ true → On x (stepOf n k) → Faithful G n x (chosenAfresh n q x) R R′ b
+  pub afresh : (x : ℕ) (q : Request) (k : ℕ) (renewed : ℕ → Bool) (R R′ : ℕ → G .carrier) (b : Blocks (G .carrier)) → Proper n x q → Faithful G n x q renewed R R′ b
+      → x ≤ n → readyAt n q k ≡ true → On x (stepOf n k) → Faithful G n x (chosenAfresh n q x) renewed R R′ b
   -- a position fails where none was missing, with a request open and without
-  pub failed : (x y : ℕ) (q : Request) (R R′ : ℕ → G .carrier) (b : Blocks (G .carrier)) → Faithful G n x q R R′ b → n < x
-      → Faithful G n y q R R′ b
+  pub failed : (x y : ℕ) (q : Request) (renewed : ℕ → Bool) (R R′ : ℕ → G .carrier) (b : Blocks (G .carrier)) → Faithful G n x q renewed R R′ b → n < x
+      → Faithful G n y q renewed R R′ b
   pub failed-idle : (x y : ℕ) (R cell : ℕ → G .carrier) → Idle G n x R cell → n < x → Idle G n y R cell
   -- what the missing position holds changes
-  pub decayed : (x : ℕ) (q : Request) (R R′ : ℕ → G .carrier) (b : Blocks (G .carrier)) (cell : ℕ → G .carrier)
-      → ((p : ℕ) → p ≤ n → ¬ (p ≡ x) → cell p ≡ b .cell p) → Faithful G n x q R R′ b
-      → Faithful G n x q R R′ (record { cell = cell; got = b .got; new = b .new })
+  pub decayed : (x : ℕ) (q : Request) (renewed : ℕ → Bool) (R R′ : ℕ → G .carrier) (b : Blocks (G .carrier)) (cell : ℕ → G .carrier)
+      → ((p : ℕ) → p ≤ n → ¬ (p ≡ x) → cell p ≡ b .cell p) → Faithful G n x q renewed R R′ b
+      → Faithful G n x q renewed R R′ (record { cell = cell; got = b .got; new = b .new })
   pub decayed-idle : (x : ℕ) (R before after : ℕ → G .carrier) → ((p : ℕ) → p ≤ n → ¬ (p ≡ x) → after p ≡ before p)
       → Idle G n x R before → Idle G n x R after
   -- the last step is done: working positions hold the new row and its parity; a read's blocks are the row's
-  pub ended : (x : ℕ) (q : Request) (R R′ : ℕ → G .carrier) (b : Blocks (G .carrier)) → Proper n x q → Faithful G n x q R R′ b
+  pub ended : (x : ℕ) (q : Request) (renewed : ℕ → Bool) (R R′ : ℕ → G .carrier) (b : Blocks (G .carrier)) → Proper n x q → Faithful G n x q renewed R R′ b
       → finished n q ≡ true → Idle G n x R′ (b .cell)
-  pub ended-read : (x : ℕ) (q : Request) (R R′ : ℕ → G .carrier) (b : Blocks (G .carrier)) → Proper n x q → Faithful G n x q R R′ b
+  pub ended-read : (x : ℕ) (q : Request) (renewed : ℕ → Bool) (R R′ : ℕ → G .carrier) (b : Blocks (G .carrier)) → Proper n x q → Faithful G n x q renewed R R′ b
       → finished n q ≡ true → q .write ≡ false → (p : ℕ) → masked n (q .mask) p ≡ true → b .got p ≡ R p
   -- a missing position of an idle stripe is the sum of the others
   pub inferred : (x : ℕ) (R cell : ℕ → G .carrier) → x ≤ n → Idle G n x R cell → R x ≡ sumTo G (suc n) (others G x cell)
@@ -101,8 +102,8 @@ pub heart : (G : Group) (n : ℕ) → Heart G n
 heart G n =
     record {
       started = begun-after G n;
-      stepped = λ x q k R R′ b P F. done-faithful G n x q R R′ b P F k;
-      afresh = λ x q k R R′ b P F l. afresh-faithful G n x q R R′ b P F l k;
+      stepped = λ x q k renewed R R′ b P F. done-faithful G n x q renewed R R′ b P F k;
+      afresh = λ x q k renewed R R′ b P F l. afresh-faithful G n x q renewed R R′ b P F l k;
       failed = failed-faithful G n;
       failed-idle = failed-idle G n;
       decayed = decayed-faithful G n;

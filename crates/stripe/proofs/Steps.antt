@@ -1,8 +1,8 @@
 -- A done step keeps the invariant of the blocks: a read holds the old row, the exclusive or X or the new parity, a write the new row.
 -- Assumes nothing.
 use Prim.Native.Nat.{ℕ, _+_, _≤_}
-use mathlib.Core.Bool.{true, false}
-use mathlib.Core.Logic.{_⊎_, inl, inr, ⊎-map}
+use mathlib.Core.Bool.{Bool, true, false, cond}
+use mathlib.Core.Logic.{_⊎_, inl, inr}
 use mathlib.Core.Path.{_≡_, refl, sym, ap, _∙_}
 use native.Mathlib.Omega.{arith}
 use lib.Dec.{eqb}
@@ -28,9 +28,9 @@ pub still : (n : ℕ) (q : Request) (k : ℕ) (s : Step) → bit k (q .done) ≡
 unfolding isDone advanced
 still n q k s b h = bit-add-other k (q .done) (numberOf n s) b h
 
-module _ (G : Group) (n x : ℕ) (q : Request) (R R′ : ℕ → G .carrier) (b : Blocks (G .carrier))
+module _ (G : Group) (n x : ℕ) (q : Request) (renewed : ℕ → Bool) (R R′ : ℕ → G .carrier) (b : Blocks (G .carrier))
     (P : Proper n x q)
-    (F : Faithful G n x q R R′ b)
+    (F : Faithful G n x q renewed R R′ b)
   where
     -- a read writes nothing, and no unit outside the mask is written: these hold the old row
     unwritten-but : (p : ℕ) → p ≤ n → (writes n (q .graph) (q .mask) (q .missed) p ≡ true → ⊥) → isDone n q (wr p) ≡ false
@@ -68,7 +68,7 @@ module _ (G : Group) (n x : ℕ) (q : Request) (R R′ : ℕ → G .carrier) (b 
 
     -- a read
     pub read-done : (p : ℕ) → p ≤ n → ¬ (p ≡ x) → reads n (q .graph) (q .mask) (q .missed) p ≡ true → bit p (q .done) ≡ false
-        → Faithful G n x (advanced q p) R R′ (performed G n q (rd p) b)
+        → Faithful G n x (advanced q p) renewed R R′ (performed G n q (rd p) b)
     unfolding performed advanced numberOf Untouched
     read-done p l h r d =
         record {
@@ -103,7 +103,7 @@ module _ (G : Group) (n x : ℕ) (q : Request) (R R′ : ℕ → G .carrier) (b 
 
     -- a write
     pub write-done : (p : ℕ) → p ≤ n → bit (n + 2 + p) (q .done) ≡ false → b .new p ≡ R′ p
-        → Faithful G n x (advanced q (n + 2 + p)) R R′ (performed G n q (wr p) b)
+        → Faithful G n x (advanced q (n + 2 + p)) (changed renewed p true) R R′ (performed G n q (wr p) b)
     unfolding performed advanced numberOf isDone Untouched
     write-done p l d new =
         record {
@@ -131,11 +131,11 @@ module _ (G : Group) (n x : ℕ) (q : Request) (R R′ : ℕ → G .carrier) (b 
         here i t = changed-same (b .cell) p (b .new p) i (eqb-true i p t) ∙ new ∙ ap R′ (sym (eqb-true i p t))
 
         old-or-new : (i : ℕ) → i ≤ n → ¬ (i ≡ x) → (eqb i p ≡ true) ⊎ (eqb i p ≡ false)
-            → (changed (b .cell) p (b .new p) i ≡ R i) ⊎ (changed (b .cell) p (b .new p) i ≡ R′ i)
-        old-or-new i k m (inl t) = inr (here i t)
+            → changed (b .cell) p (b .new p) i ≡ cond (changed renewed p true i) (R′ i) (R i)
+        old-or-new i k m (inl t) = rw (changed-same renewed p true i (eqb-true i p t)) (here i t)
         old-or-new i k m (inr t) =
-            let there = changed-other (b .cell) p (b .new p) i (eqb-false i p t) in
-            ⊎-map (λ f. there ∙ f) (λ f. there ∙ f) (F .either i k m)
+            rw (changed-other renewed p true i (eqb-false i p t))
+            (changed-other (b .cell) p (b .new p) i (eqb-false i p t) ∙ F .either i k m)
 
         writing : (i : ℕ) → i ≤ n → ¬ (i ≡ x) → isDone n (advanced q (n + 2 + p)) (wr i) ≡ true → (eqb i p ≡ true) ⊎ (eqb i p ≡ false)
             → changed (b .cell) p (b .new p) i ≡ R′ i
@@ -152,7 +152,7 @@ module _ (G : Group) (n x : ℕ) (q : Request) (R R′ : ℕ → G .carrier) (b 
 
     -- the exclusive or, where it goes to the read block of X
     sum-to-read : bit (n + 1) (q .done) ≡ false → q .graph ≡ 2 → total G n q b ≡ R (q .missed)
-        → Faithful G n x (advanced q (n + 1)) R R′
+        → Faithful G n x (advanced q (n + 1)) renewed R R′
         (record { cell = b .cell; got = changed (b .got) (q .missed) (total G n q b); new = b .new })
     unfolding advanced numberOf Untouched
     sum-to-read d g t =
@@ -183,7 +183,7 @@ module _ (G : Group) (n x : ℕ) (q : Request) (R R′ : ℕ → G .carrier) (b 
 
     -- the exclusive or, where it goes to the last block to write
     sum-to-new : bit (n + 1) (q .done) ≡ false → ¬ (q .graph ≡ 2) → total G n q b ≡ R′ n
-        → Faithful G n x (advanced q (n + 1)) R R′ (record { cell = b .cell; got = b .got; new = changed (b .new) n (total G n q b) })
+        → Faithful G n x (advanced q (n + 1)) renewed R R′ (record { cell = b .cell; got = b .got; new = changed (b .new) n (total G n q b) })
     unfolding advanced numberOf Untouched
     sum-to-new d g t =
         record {
@@ -206,7 +206,7 @@ module _ (G : Group) (n x : ℕ) (q : Request) (R R′ : ℕ → G .carrier) (b 
 
     pub sum-done : bit (n + 1) (q .done) ≡ false → sums (q .graph) ≡ true
         → ((r : ℕ) → r ≤ n → reads n (q .graph) (q .mask) (q .missed) r ≡ true → bit r (q .done) ≡ true)
-        → Faithful G n x (advanced q (n + 1)) R R′ (performed G n q xr b)
+        → Faithful G n x (advanced q (n + 1)) renewed R R′ (performed G n q xr b)
     unfolding performed total sumsToRead isDone numberOf
     sum-done d s all =
         go
@@ -214,6 +214,6 @@ module _ (G : Group) (n x : ℕ) (q : Request) (R R′ : ℕ → G .carrier) (b 
         (λ r l h. F .read r l (all r l h)) (F .kept))
       where
         go : ((q .graph ≡ 2) × (total G n q b ≡ R (q .missed))) ⊎ ((¬ (q .graph ≡ 2)) × (total G n q b ≡ R′ n))
-            → Faithful G n x (advanced q (n + 1)) R R′ (performed G n q xr b)
+            → Faithful G n x (advanced q (n + 1)) renewed R R′ (performed G n q xr b)
         go (inl a) = rw (eq-eqb (q .graph) 2 (a .0), performed) (sum-to-read d (a .0) (a .1))
         go (inr a) = rw (ne-eqb (q .graph) 2 (a .0), performed) (sum-to-new d (a .0) (a .1))

@@ -1,7 +1,7 @@
 -- What a stripe and a request's work store hold, by position, and what a done step does to them.
 -- Assumes nothing.
 use Prim.Native.Nat.{ℕ, suc, _≤_}
-use mathlib.Core.Bool.{cond}
+use mathlib.Core.Bool.{Bool, true, cond}
 use mathlib.Core.Path.{_≡_}
 use lib.Dec.{eqb}
 use Rattle.graph.specs.Steps.{Step, rd, xr, wr, nil}
@@ -47,3 +47,10 @@ performed G n q xr b =
     (record { cell = b .cell; got = b .got; new = changed (b .new) n (total G n q b) })
 performed G n q (wr p) b = record { cell = changed (b .cell) p (b .new p); got = b .got; new = b .new }
 performed G n q nil b = b
+
+-- the positions written since a request's admission, after one more step
+unfoldable pub renewedBy : Step → (ℕ → Bool) → ℕ → Bool
+renewedBy (rd p) renewed = renewed
+renewedBy xr renewed = renewed
+renewedBy (wr p) renewed = changed renewed p true
+renewedBy nil renewed = renewed

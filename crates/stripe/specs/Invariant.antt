@@ -66,8 +66,8 @@ module _ (G : Group) where
     pub row : IsRow n R
     pub holds : (p : ℕ) → p ≤ n → ¬ (p ≡ x) → cell p ≡ R p
 
-  -- an open request, R the old row and R′ the new one
-  pub record Faithful (n x : ℕ) (q : Request) (R R′ : ℕ → G .carrier) (b : Blocks (G .carrier)) : Type 0 where
+  -- an open request, R the old row and R′ the new one; renewed are the positions written since its admission, by whichever graph
+  pub record Faithful (n x : ℕ) (q : Request) (renewed : ℕ → Bool) (R R′ : ℕ → G .carrier) (b : Blocks (G .carrier)) : Type 0 where
     pub old-row : IsRow n R
     pub new-row : IsRow n R′
     -- a read changes nothing, a write its masked units and parity
@@ -83,5 +83,5 @@ module _ (G : Group) where
     -- a working position holds the new row once it is written, and the old one before where that is certain
     pub written : (p : ℕ) → p ≤ n → ¬ (p ≡ x) → isDone n q (wr p) ≡ true → b .cell p ≡ R′ p
     pub unwritten : (p : ℕ) → p ≤ n → ¬ (p ≡ x) → isDone n q (wr p) ≡ false → Untouched n q p → b .cell p ≡ R p
-    -- at every moment it holds the old row or the new one, also after a fresh choice, which forgets what is written
-    pub either : (p : ℕ) → p ≤ n → ¬ (p ≡ x) → (b .cell p ≡ R p) ⊎ (b .cell p ≡ R′ p)
+    -- at every moment it holds one of the two, the new row where it is renewed: also after a fresh choice, which forgets what is written
+    pub either : (p : ℕ) → p ≤ n → ¬ (p ≡ x) → b .cell p ≡ cond (renewed p) (R′ p) (R p)
