@@ -25,7 +25,7 @@ use Rattle.record.specs.declared.Record.{Record}
 use Rattle.record.specs.declared.Survey.{Survey}
 use Rattle.record.proofs.Soundness as soundness
 use Rattle.array.specs.Lent.{tableWrong, lentRows, unitBytes}
-use Rattle.array.specs.Premises.{Keeping, Performing}
+use Rattle.array.specs.Premises.{Keeping, Standing}
 use Rattle.array.specs.Refusals.{admitRefusal, admitRows, stepRefusal, stepRows, collectRefusal, collectRows, payloadWrong, resultShort, stepReady}
 use Rattle.array.proofs.Choices.{choose-two, choose-some}
 use Rattle.array.proofs.Lent.{passed-rows}
@@ -67,7 +67,7 @@ chosen-below st r l s o g =
 module _ (st : State) (v : Survey) (r : Record) (work image : List ℕ) (i k : ℕ) where
   -- an accepted step: it can be done, and the record after it is the paper's
   pub record Stepped : Type 0 where
-    pub performing : Performing st i r work image
+    pub standing : Standing st work image i r
     pub done : steppedOr st r k ≡ stepped st r k
     pub afresh : afreshOr st r ≡ afresh st r
 
@@ -85,7 +85,7 @@ module _ (st : State) (v : Survey) (r : Record) (work image : List ℕ) (i k : �
       let sound = and-right (v .sound) (soundRecord st r) (p .is-fine) in
       let few = few-units st (p .limits) in
       record {
-        performing =
+        standing =
             record {
               limits = legal-state st (p .limits);
               record-below = leb-false (st .records) i (own .0);

@@ -23,12 +23,10 @@ pub mod Choices
 pub mod LentRows
 pub mod Accepted
 -- The work: units that are moved, blocks that are added up, a step by its kind
-pub mod Turns
 pub mod Units
 pub mod Adding
 pub mod Performed
-pub mod Within
 -- What the calls hand back
 pub mod Outcomes
-pub mod Looks
-pub mod Opening
+pub mod ScanBy
+pub mod OpeningBy

@@ -3,12 +3,13 @@
 use Prim.Native.Nat.{ℕ, _+_, _-_, _*_, _≤_, _<_}
 use mathlib.Core.Bool.{Bool, true, false, cond}
 use mathlib.Core.List.{List, []}
-use mathlib.Core.Path.{_≡_, refl, sym, ap, ap₂, _∙_}
+use mathlib.Core.Path.{_≡_, refl, sym, ap, ap₂, _∙_, subst}
 use native.Mathlib.Nat.{zero-add}
 use native.Mathlib.Omega.{arith}
 use lib.Bits.{bitXor, xor-zero-l}
+use lib.Dec.{leb, eqb}
 use lib.ListN.{length, getD, length-replicate, getD-replicate}
-use borrow.Author.Tests.{le-leb}
+use borrow.Author.Tests.{le-leb, leb-true}
 use borrow.Rule.Slice.PartMut.{putMid, midOf}
 use Rattle.terms.specs.Lists.{part, put}
 use Rattle.terms.specs.Sets.{setOf, xorTo}
@@ -27,11 +28,11 @@ use Rattle.geometry.proofs.Bounds.{legal-bounds}
 use Rattle.geometry.proofs.Places.{cardAt-below}
 use Rattle.geometry.proofs.Turns.{cardIn-is}
 use Rattle.graph.specs.Asked.{fewUnits}
-use Rattle.graph.specs.Steps.{rd, xr, wr}
+use Rattle.graph.specs.Steps.{Step, rd, xr, wr, nil, stepOf}
 use Rattle.graph.specs.Sums.{takesRead, takesNew, sumsToRead}
 use Rattle.record.specs.Life.{chosenAt, unitsOf}
 use Rattle.record.specs.declared.Record.{Record}
-use Rattle.array.specs.Premises.{Performing}
+use Rattle.array.specs.Premises.{Standing, Within}
 use Rattle.array.specs.Stepping.{cellOf, workAfter, imageAfter, sumByte, sumAt}
 use Rattle.array.specs.Sums.{takenIf, blockSum}
 
@@ -52,16 +53,16 @@ copied-part dst at size src b h long moved =
     moved ∙ rw (mid-part at size dst) (copied-whole (part at size dst) src (length-part at size dst h ∙ sym long)) in
     put-mid at size dst b (ap length is ∙ long) ∙ ap (λ (l : List ℕ). put at l dst) is
 
-module _ (st : State) (i : ℕ) (r : Record) (work image : List ℕ) (k : Performing st i r work image) where
-  pub performing-bounds : BoundsOf st
-  performing-bounds = legal-bounds (st .cards) (st .stripes) (st .block) (st .records) (k .limits)
+module _ (st : State) (i : ℕ) (r : Record) (work image : List ℕ) (k : Standing st work image i r) where
+  pub standing-bounds : BoundsOf st
+  standing-bounds = legal-bounds (st .cards) (st .stripes) (st .block) (st .records) (k .limits)
 
   -- the card of a position, as the code finds it
   pub card-found : (p card : ℕ) → p < st .cards → card ≡ cardIn (st .cards) (r .stripe) p → card ≡ cardAt (st .cards) (r .stripe) p
   card-found p card h e = e ∙ cardIn-is (st .cards) (r .stripe) p h
 
   pub card-below : (p card : ℕ) → p < st .cards → card ≡ cardIn (st .cards) (r .stripe) p → card < st .cards
-  card-below p card h e = rw (card-found p card h e) (cardAt-below (st .cards) (omega (arith, performing-bounds)) (r .stripe) p)
+  card-below p card h e = rw (card-found p card h e) (cardAt-below (st .cards) (omega (arith, standing-bounds)) (r .stripe) p)
 
   -- the blocks of a position lie within the image and the work store
   pub cell-room : (p card at : ℕ) → p < st .cards → card ≡ cardIn (st .cards) (r .stripe) p → at ≡ cellAt (st .stripes) (st .block) card (r .stripe)
@@ -100,7 +101,7 @@ module _ (st : State) (i : ℕ) (r : Record) (work image : List ℕ) (k : Perfor
 
   few : fewUnits (unitsOf st) ≡ true
   unfolding fewUnits
-  few = le-leb (unitsOf st) 7 (omega (arith, performing-bounds))
+  few = le-leb (unitsOf st) 7 (omega (arith, standing-bounds))
 
   -- the sets that the sum takes, as the code makes them
   abbrev reads : ℕ
@@ -119,7 +120,7 @@ module _ (st : State) (i : ℕ) (r : Record) (work image : List ℕ) (k : Perfor
   taken-byte : (f : ℕ → Bool) (first at p b : ℕ) → p < st .cards → b < st .block → first + p * st .block ≡ at
       → getD (takenIf (setOf (unitsOf st + 1) f) first (st .block) work p) b 0 ≡ cond (f p) (getD work (at + b) 0) 0
   taken-byte f first at p b h hb e =
-      rw (bit-setOf (unitsOf st + 1) f p (omega (arith, performing-bounds)), e) (go (f p))
+      rw (bit-setOf (unitsOf st + 1) f p (omega (arith, standing-bounds)), e) (go (f p))
     where
       go : (t : Bool) → getD (cond t (part at (st .block) work) []) b 0 ≡ cond t (getD work (at + b) 0) 0
       go true = getD-part at (st .block) work b 0 hb
@@ -137,7 +138,7 @@ module _ (st : State) (i : ℕ) (r : Record) (work image : List ℕ) (k : Perfor
   sum-byte b hb =
       let N = st .cards in
       let B = st .block in
-      let small : b < 512 = omega (arith, performing-bounds) in
+      let small : b < 512 = omega (arith, standing-bounds) in
       let old = takenIf reads (readAt N B i 0) B work in
       let new = takenIf news (writeAt N B i 0) B work in
       let long : length (zeros 512) ≡ 512 = length-replicate {A = ℕ} 512 0 in
@@ -158,15 +159,46 @@ module _ (st : State) (i : ℕ) (r : Record) (work image : List ℕ) (k : Perfor
           → cond t (readAt (st .cards) (st .block) i (chosenAt st r)) (writeAt (st .cards) (st .block) i (unitsOf st)) + st .block ≤ length work
       go true e = omega (arith, k .work-right, read-inside (st .cards) (st .block) (st .records) i (chosenAt st r) (k .record-below) (k .x-below e))
       go false e =
-          omega (arith, k .work-right, write-inside (st .cards) (st .block) (st .records) i (unitsOf st) (k .record-below) (omega (arith, performing-bounds)))
+          omega (arith, k .work-right, write-inside (st .cards) (st .block) (st .records) i (unitsOf st) (k .record-below) (omega (arith, standing-bounds)))
 
   pub performed-sum : (at : ℕ) (w : List ℕ) → at ≡ sumAt st i r → at + st .block ≤ length work → w ≡ carried work at sum 0 (st .block)
       → w ≡ workAfter st i r xr work image
   unfolding workAfter
   performed-sum at w at-is room moved =
-      let whole : 0 + st .block ≤ length sum = omega (arith, performing-bounds, sum-length) in
+      let whole : 0 + st .block ≤ length sum = omega (arith, standing-bounds, sum-length) in
       moved
       ∙ carried-whole work at sum 0 (st .block) room whole
       ∙ ap₂ (λ (a : ℕ) (b : List ℕ). put a b work) at-is
       (is-tabulate (part 0 (st .block) sum) (st .block) (sumByte st i r work) 0 (length-part 0 (st .block) sum whole)
       (λ b h. getD-part 0 (st .block) sum b 0 h ∙ ap (λ (j : ℕ). getD sum j 0) (zero-add b) ∙ sum-byte b h))
+
+-- ---- a step by its kind
+
+-- a step's position is one of the stripe's, whatever its number
+pub step-within : (N k : ℕ) → 0 < N → Within N (stepOf (N - 1) k)
+unfolding stepOf
+step-within N k h = reads (leb k (N - 1)) refl
+  where
+    writes : (b : Bool) → leb k (2 * (N - 1) + 2) ≡ b → Within N (cond b (wr (k - ((N - 1) + 2))) nil)
+    writes true e = omega (arith, leb-true k (2 * (N - 1) + 2) e)
+    writes false e = tt
+
+    sums : (b : Bool) → Within N (cond b xr (cond (leb k (2 * (N - 1) + 2)) (wr (k - ((N - 1) + 2))) nil))
+    sums true = tt
+    sums false = writes (leb k (2 * (N - 1) + 2)) refl
+
+    reads : (b : Bool) → leb k (N - 1) ≡ b
+        → Within N (cond b (rd k) (cond (eqb k ((N - 1) + 1)) xr (cond (leb k (2 * (N - 1) + 2)) (wr (k - ((N - 1) + 2))) nil)))
+    reads true e = omega (arith, leb-true k (N - 1) e)
+    reads false e = sums (eqb k ((N - 1) + 1))
+
+-- the step that an action tells is within
+pub told-within : (N k : ℕ) (s : Step) → 0 < N → stepOf (N - 1) k ≡ s → Within N s
+told-within N k s h e = subst (Within N) e (step-within N k h)
+
+-- what is left after step t is what is left after step s, which is t
+pub as-told : (st : State) (i : ℕ) (r : Record) (work image : List ℕ) (s t : Step) (w m : List ℕ) → s ≡ t
+    → w ≡ workAfter st i r t work image → m ≡ imageAfter st i r t work image
+    → (w ≡ workAfter st i r s work image) × (m ≡ imageAfter st i r s work image)
+as-told st i r work image s t w m e hw hm =
+    (hw ∙ ap (λ (u : Step). workAfter st i r u work image) (sym e), hm ∙ ap (λ (u : Step). imageAfter st i r u work image) (sym e))

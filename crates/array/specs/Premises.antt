@@ -28,12 +28,12 @@ pub record Keeping (st : State) (i mask : ℕ) (units work : List ℕ) : Type 0 
   pub work-right : length work ≡ workSize (st .cards) (st .block) (st .records)
   pub room : unitBytes st mask ≤ length units
 
--- an open record i, which is r, with the image and the work store: a step of it can be done
-pub record Performing (st : State) (i : ℕ) (r : Record) (work image : List ℕ) : Type 0 where
+-- what a step stands on: the limits hold, the work store and the image have their lengths, record i, which is r, and its stripe are in range, and
+-- X, where the exclusive or is of X, is one of the stripe's positions
+pub record Standing (st : State) (work image : List ℕ) (i : ℕ) (r : Record) : Type 0 where
   pub limits : legalState st ≡ true
-  pub record-below : i < st .records
-  pub stripe-below : r .stripe < st .stripes
   pub work-right : length work ≡ workSize (st .cards) (st .block) (st .records)
   pub image-right : length image ≡ imageSize (st .cards) (st .stripes) (st .block)
-  -- X, where the exclusive or is of X, is one of the stripe's positions
+  pub record-below : i < st .records
+  pub stripe-below : r .stripe < st .stripes
   pub x-below : sumsToRead (r .graph) ≡ true → chosenAt st r < st .cards

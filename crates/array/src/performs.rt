@@ -4,7 +4,7 @@
 ghost use mathlib.Core.Path.{_≡_};
 ghost use mathlib.Core.Bool.{true};
 ghost use Prim.Native.Nat.{_<_};
-ghost use Rattle.array.specs.Premises.{Performing, Within};
+ghost use Rattle.array.specs.Premises.{Standing, Within};
 ghost use Rattle.array.specs.Stepping.{workAfter, imageAfter, sumAt};
 ghost use Rattle.graph.specs.Asked.{actionStep};
 ghost use Rattle.graph.specs.Steps.{rd, xr, wr};
@@ -27,7 +27,7 @@ use record::Record;
 
 // Copies the card's block of a position to the record's read block.
 fn read(state: State, i: u64, r: Record, p: u64, work: &mut [u8], image: &[u8])
-    requires { ⌜ (Performing state i r (now work) (now image)) × (p < state .cards) ⌝ }
+    requires { ⌜ (Standing state (now work) (now image) i r) × (p < state .cards) ⌝ }
     ensures { λ _. ⌜ now (work .exit) ≡ workAfter state i r (rd p) (now (work .entry)) (now (image .entry)) ⌝ }
 {
     let size = state.block as usize;
@@ -39,7 +39,7 @@ fn read(state: State, i: u64, r: Record, p: u64, work: &mut [u8], image: &[u8])
 
 // Copies the record's block to write of a position to its card.
 fn write(state: State, i: u64, r: Record, p: u64, work: &[u8], image: &mut [u8])
-    requires { ⌜ (Performing state i r (now work) (now image)) × (p < state .cards) ⌝ }
+    requires { ⌜ (Standing state (now work) (now image) i r) × (p < state .cards) ⌝ }
     ensures { λ _. ⌜ now (image .exit) ≡ imageAfter state i r (wr p) (now (work .entry)) (now (image .entry)) ⌝ }
 {
     let size = state.block as usize;
@@ -64,7 +64,7 @@ fn sum_at(state: State, i: u64, r: Record, x: u64) -> usize
 
 // Adds up the blocks that the record's graph takes.
 fn sum(state: State, i: u64, r: Record, work: &mut [u8], image: &[u8])
-    requires { ⌜ Performing state i r (now work) (now image) ⌝ }
+    requires { ⌜ Standing state (now work) (now image) i r ⌝ }
     ensures { λ _. ⌜ now (work .exit) ≡ workAfter state i r xr (now (work .entry)) (now (image .entry)) ⌝ }
 {
     let n = state.cards - 1;
@@ -84,7 +84,7 @@ pub(crate) fn perform(
     work: &mut [u8],
     image: &mut [u8],
 )
-    requires { ⌜ (Performing state i r (now work) (now image)) × Within (state .cards) (actionStep action) ⌝ }
+    requires { ⌜ (Standing state (now work) (now image) i r) × Within (state .cards) (actionStep action) ⌝ }
     ensures works { λ _. ⌜ now (work .exit) ≡ workAfter state i r (actionStep action) (now (work .entry)) (now (image .entry)) ⌝ }
     ensures images { λ _. ⌜ now (image .exit) ≡ imageAfter state i r (actionStep action) (now (work .entry)) (now (image .entry)) ⌝ }
 {

@@ -20,7 +20,7 @@ use Rattle.graph.specs.Steps.{stepOf}
 use Rattle.record.specs.Life.{unitsOf, chosenAt, missingIn}
 use Rattle.record.specs.declared.Record.{Record}
 use Rattle.array.proofs.Steppings.{Ready}
-use Rattle.array.proofs.Steps.{Within}
+use Rattle.array.specs.Premises.{Within}
 use Rattle.array.specs.Refusals.{stepReady}
 use Rattle.array.specs.Stepping.{meetsOut}
 use Rattle.stripe.proofs.Readied.{readied}

@@ -24,7 +24,7 @@ use Rattle.parity.specs.Parity.{byteAt}
 use Rattle.record.specs.Life.{missingIn}
 use Rattle.record.specs.declared.Record.{Record}
 use Rattle.array.proofs.Frames.{cell-put-length, cell-put-same, cell-put-other}
-use Rattle.array.proofs.Steps.{Within}
+use Rattle.array.specs.Premises.{Within}
 use Rattle.array.specs.Stepping.{cellOf, meetsOut, workAfter, imageAfter}
 use Rattle.history.specs.History.{Decayed}
 

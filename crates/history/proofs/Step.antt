@@ -15,7 +15,7 @@ use Rattle.graph.specs.Steps.{Step, rd, xr, wr, nil, stepOf}
 use Rattle.record.specs.Life.{isOpen, unitsOf, chosenAt, missingIn, afresh}
 use Rattle.record.specs.declared.Record.{Record}
 use Rattle.array.proofs.Steppings.{Ready}
-use Rattle.array.proofs.Steps.{Within}
+use Rattle.array.specs.Premises.{Within}
 use Rattle.array.specs.Refusals.{stepReady}
 use Rattle.array.specs.Stepping.{meetsOut}
 use Rattle.stripe.proofs.Bytes.{bytes}

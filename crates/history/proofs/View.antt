@@ -9,14 +9,16 @@ use borrow.Author.Tests.{eqb-true, eqb-false}
 use lib.Bits.{bitXor}
 use lib.Dec.{eqb}
 use Rattle.terms.specs.Sets.{xorTo}
-use Rattle.geometry.proofs.Placing.{one-position}
+use Rattle.geometry.proofs.Bounds.{legal-bounds}
+use Rattle.geometry.proofs.Placing.{placed-in, one-position}
 use Rattle.geometry.specs.Placement.{cardOfPosition}
 use Rattle.geometry.specs.declared.State.{State}
 use Rattle.graph.specs.Steps.{Step, rd, xr, wr, nil}
 use Rattle.graph.specs.Sums.{sumsToRead}
 use Rattle.record.specs.Life.{unitsOf, chosenAt}
 use Rattle.record.specs.declared.Record.{Record}
-use Rattle.array.proofs.Steps.{Standing, Within, read-got, read-got-other, read-new, inferred-got, inferred-got-other, inferred-new}
+use Rattle.array.specs.Premises.{Standing, Within}
+use Rattle.array.proofs.Steps.{read-got, read-got-other, read-new, inferred-got, inferred-got-other, inferred-new}
 use Rattle.array.proofs.Steps.{computed-new, computed-new-other, computed-got, write-cell, write-cell-other}
 use Rattle.array.specs.Stepping.{sumByte, workAfter, imageAfter}
 use Rattle.stripe.proofs.Bytes.{bytes, sum-xor}
@@ -38,8 +40,11 @@ module _ (st : State) (work image : List ℕ) (i : ℕ) (r : Record) (at : Stand
   abbrev before : Blocks ℕ
   before = viewOf st work image i (r .stripe) b
 
+  some-card : 0 < st .cards
+  some-card = omega (arith, legal-bounds (st .cards) (st .stripes) (st .block) (st .records) (at .limits))
+
   small : (q : ℕ) → q ≤ unitsOf st → q < st .cards
-  small q l = omega (arith, at .some-card)
+  small q l = omega (arith, some-card)
 
   -- the exclusive or is the same
   sum-same : sumByte st i r work b ≡ total bytes (unitsOf st) (requestOf st r) before
@@ -47,7 +52,7 @@ module _ (st : State) (work image : List ℕ) (i : ℕ) (r : Record) (at : Stand
   sum-same = ap₂ bitXor (over _) (over _)
     where
       over : (f : ℕ → ℕ) → xorTo (st .cards) f ≡ sumTo bytes (suc (unitsOf st)) f
-      over f = ap (λ (k : ℕ). xorTo k f) (let e : st .cards ≡ suc (unitsOf st) = omega (arith, at .some-card) in e) ∙ sym (sum-xor (suc (unitsOf st)) f)
+      over f = ap (λ (k : ℕ). xorTo k f) (let e : st .cards ≡ suc (unitsOf st) = omega (arith, some-card) in e) ∙ sym (sum-xor (suc (unitsOf st)) f)
 
   -- the view after a step
   abbrev seen : Step → Blocks ℕ
@@ -71,7 +76,7 @@ module _ (st : State) (work image : List ℕ) (i : ℕ) (r : Record) (at : Stand
         same-cell = λ q l d. at-place (before .cell) (seen (wr p) .cell) p (before .new p) q
             (λ e. rw e (write-cell st work image i r at p b hp hb))
             (λ d. write-cell-other st work image i r at p (cardOfPosition st (r .stripe) q) (r .stripe) b hp (at .stripe-below) hb
-            (λ f g. d (sym (one-position (at .placing) (r .stripe) p q hp (small q l) f))));
+            (λ f g. d (sym (one-position (placed-in st some-card) (r .stripe) p q hp (small q l) f))));
         same-got = λ q l. unfold workAfter in refl;
         same-new = λ q l. unfold workAfter in refl;
       }

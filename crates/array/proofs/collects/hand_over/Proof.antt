@@ -7,8 +7,7 @@ use borrow.Author.Needs.{needs}
 use denote.Ref.{now}
 use Rattle.terms.proofs.Bits.{bit-odd, bit-even}
 use Rattle.array.specs.Collection.{handUnit, handOver}
-use Rattle.array.proofs.Turns.{Turned, turned-none, turned-all}
-use Rattle.array.proofs.Units.{keeping-bounds, keep-room, hand-more, hand-pass}
+use Rattle.array.proofs.Units.{Turned, turned-none, turned-pass, turned-all, keeping-bounds, keep-room, hand-more}
 use Rattle.array.proofs.collects.hand_over.Statement.{statement}
 use Rattle.array.proofs.collects.hand_over.Tie as tie
 
@@ -74,8 +73,7 @@ loop-again c =
     (c .before .loop-test .taken) (bit-odd (k .u) (a .mask) (w .0 .taken)) _ _ (w .1 .ensures) (w .3 .ensures)))
     (λ w.
     rw (w .1, w .2)
-    (hand-pass (a .state) (a .«record») (a .mask) (now (a .result)) (now (a .work)) (s .pre) (k .result) (k .place) (k .u) (k .inv)
-    (c .before .loop-test .taken) (bit-even (k .u) (a .mask) (w .0 .left))))
+    (turned-pass _ _ _ _ _ (k .result) (k .place) (k .u) (k .inv) (c .before .loop-test .taken) (bit-even (k .u) (a .mask) (w .0 .left)) (rw (bit-even (k .u) (a .mask) (w .0 .left)))))
     (c .if1 .came)
 
 same-length : tie.Need-same-length Inv-loop μ-loop

@@ -13,7 +13,7 @@ use Rattle.parity.specs.Scan.{reply, lookReply, idleScanReply}
 use Rattle.array.specs.Lent.{tableWrong}
 use Rattle.array.specs.Refusals.{opened}
 use Rattle.array.proofs.Accepted.{legal-state}
-use Rattle.array.proofs.Opening.{opening-refused, opening-accepted, opening-disagrees, open-beyond, open-lengths, open-out, open-right, open-wrong, scanned, told-right, told-wrong, told-never}
+use Rattle.array.proofs.OpeningBy.{opening-refused, opening-accepted, opening-disagrees, open-beyond, open-lengths, open-out, open-right, open-wrong, scanned, told-right, told-wrong, told-never}
 use borrow.Author.Needs.{needs}
 use Rattle.array.proofs.opens.open_by.Statement.{statement}
 use Rattle.array.proofs.opens.open_by.Tie as tie

@@ -4,7 +4,7 @@ use mathlib.Core.Path.{refl, ap}
 use denote.Ref.{now}
 use Rattle.graph.specs.Asked.{actionStep}
 use Rattle.array.specs.Stepping.{workAfter, imageAfter}
-use Rattle.array.proofs.Within.{as-told}
+use Rattle.array.proofs.Performed.{as-told}
 use borrow.Author.Needs.{needs}
 use Rattle.array.proofs.performs.perform.Statement.{statement}
 use Rattle.array.proofs.performs.perform.Tie as tie

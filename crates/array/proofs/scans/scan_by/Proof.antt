@@ -10,7 +10,7 @@ use Rattle.geometry.specs.Store.{imageWrong}
 use Rattle.array.specs.Lent.{tableWrong, lentRows}
 use Rattle.array.proofs.Accepted.{legal-state}
 use Rattle.array.proofs.LentRows.{lent-long}
-use Rattle.array.proofs.Looks.{scan-beyond, scan-first, scan-out, scan-all}
+use Rattle.array.proofs.ScanBy.{scan-beyond, scan-first, scan-out, scan-all}
 use borrow.Author.Needs.{needs}
 use Rattle.array.proofs.scans.scan_by.Statement.{statement}
 use Rattle.array.proofs.scans.scan_by.Tie as tie

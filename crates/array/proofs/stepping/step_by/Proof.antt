@@ -12,7 +12,7 @@ use Rattle.record.specs.Life.{missingIn}
 use Rattle.array.specs.Stepping.{meetsOut}
 use Rattle.array.proofs.Accepted.{Stepped, step-accepted, afresh-some}
 use Rattle.array.proofs.Outcomes.{stepping-refused, stepping-afresh, stepping-done}
-use Rattle.array.proofs.Within.{told-within}
+use Rattle.array.proofs.Performed.{told-within}
 use borrow.Author.Needs.{needs}
 use Rattle.array.proofs.stepping.step_by.Statement.{statement}
 use Rattle.array.proofs.stepping.step_by.Tie as tie
@@ -42,7 +42,7 @@ accepted c =
     step-accepted (a .state) (a .survey) (a .r) (now (a .work)) (now (a .image)) (a .i) (a .k) (sym (c .before .step-refusal .ensures) ∙ c .if1 .left)
 
 bounds : (c : tie.Else1) → BoundsOf (c .before .before .before .before .before .before .args .state)
-bounds c = legal-bounds _ _ _ _ (accepted c .performing .limits)
+bounds c = legal-bounds _ _ _ _ (accepted c .standing .limits)
 
 sub-step-of : tie.Need-sub-step-of
 sub-step-of c = omega (arith, bounds (c .before))
@@ -81,7 +81,7 @@ returns-2 c =
 perform-requires : tie.Need-perform-requires
 perform-requires c κs =
     let e = c .before .before .before .before .before .before .before in
-    (accepted e .performing, told-within _ _ _ (omega (arith, bounds e)) (sym (c .before .before .before .before .before .step-of .ensures)))
+    (accepted e .standing, told-within _ _ _ (omega (arith, bounds e)) (sym (c .before .before .before .before .before .step-of .ensures)))
 
 stepped-requires : tie.Need-stepped-requires
 stepped-requires c κs = search needs
