@@ -19,7 +19,7 @@ use Rattle.array.specs.Refusals.{opened as openedState}
 use Rattle.history.specs.Account.{Account, withEntry, stepNoted, reported, entered, noted}
 use Rattle.history.specs.History.{History, opened, next, decayed, openedAccount, Always, reportedIn, cardsOut, OneCard, Whole}
 use Rattle.history.specs.World.{World, Event, admit, step, report, collect, scan, Outcome, Engine, play}
-use Rattle.history.proofs.Opened.{open-passed, open-state}
+use Rattle.history.proofs.Opened.{open-state}
 use Rattle.history.proofs.Replies.{report-tests, report-taken, refused-leaves}
 
 -- ---- what a report notes
@@ -183,6 +183,6 @@ module _ (w : World) (a : Account) (same : w .state ≡ a .state) where
       go (inr f) = rw (f, refused-leaves w e (eqb-false (play w e .reply .number) 0 f)) same
 
 pub state-kept : {w : World} {a : Account} → History play w a → w .state ≡ a .state
-state-kept (opened g out table work image ok) = unfold openedAccount in open-state g out table work image (open-passed g out table work image ok)
+state-kept (opened g out table work image ok) = unfold openedAccount in open-state g out table work image ok
 state-kept (next {w} {a} h e) = same-after w a (state-kept h) e
 state-kept (decayed h image d) = state-kept h

@@ -18,6 +18,7 @@ use Rattle.graph.specs.Order.{complete, after}
 use Rattle.graph.specs.Steps.{stepOf}
 use Rattle.record.specs.Life.{free, isFinished, unitsOf, chosenAt, missingIn, stepped, afresh}
 use Rattle.record.specs.declared.Record.{Record}
+use Rattle.array.proofs.Reports.{Reports}
 use Rattle.array.proofs.Steppings.{Ready}
 use Rattle.array.specs.Stepping.{meetsOut}
 use Rattle.history.specs.Account.{Account, Entry, withEntry, stepNoted, reported, entered, noted}
@@ -29,8 +30,8 @@ use Rattle.history.proofs.Collect.{collect-sure}
 use Rattle.history.proofs.Decay.{decay-sure}
 use Rattle.history.proofs.Done.{done-sure}
 use Rattle.history.proofs.Invariant.{Sure}
-use Rattle.history.proofs.Opened.{open-passed, open-sure}
-use Rattle.history.proofs.Replies.{admit-tests, admit-taken, step-tests, step-afresh, step-done, Reporting, report-tests, report-taken, collect-tests, collect-taken, refused-leaves}
+use Rattle.history.proofs.Opened.{open-sure}
+use Rattle.history.proofs.Replies.{admit-tests, admit-taken, step-tests, step-afresh, step-done, report-tests, report-taken, collect-tests, collect-taken, refused-leaves}
 use Rattle.history.proofs.Report.{report-sure}
 use Rattle.history.proofs.Rows.{afterRow}
 use Rattle.history.proofs.Step.{afresh-sure}
@@ -96,7 +97,7 @@ module _ (w : World) (row : ℕ → List ℕ) (entry : ℕ → Entry) where
         rw (report-noted (w .state) c (tests .another))
         (go (truth (eqb (w .state .out) none)) (rw (report-noted (w .state) c (tests .another)) at whole))
       where
-        tests : Reporting w c ok
+        tests : Reports (w .state) c
         tests = report-tests w c ok
 
         go : (eqb (w .state .out) none ≡ true) ⊎ (eqb (w .state .out) none ≡ false) → marked (w .state) c .lost ≡ 0
@@ -136,6 +137,6 @@ event-kept w a same sure =
 
 -- the invariant at the end of a history
 pub history-sure : {w : World} {a : Account} → History play w a → Whole a → Sure w a
-history-sure (opened g out table work image ok) whole = open-sure g out table work image (open-passed g out table work image ok)
+history-sure (opened g out table work image ok) whole = open-sure g out table work image ok
 history-sure (next {w} {a} h e) whole = event-kept w a (state-kept h) (history-sure h (whole-call play w a e whole)) e whole
 history-sure (decayed {w} {a} h image d) whole = decay-sure w a (history-sure h whole) image (rw (state-kept h) d)
