@@ -3,16 +3,17 @@
 -- Assumes nothing.
 use Prim.Native.Nat.{ℕ}
 use mathlib.Core.Bool.{Bool, true, false, cond}
-use mathlib.Core.List.{List, [], _∷_}
+use mathlib.Core.List.{List, [], _∷_, _++_}
 use mathlib.Core.Logic.{_⊎_, inl, inr}
 use mathlib.Core.Path.{_≡_, refl, sym, ap, _∙_}
 use native.Mathlib.Omega.{arith}
-use borrow.Author.Tests.{eqb-true, eqb-false, ne-eqb}
+use borrow.Author.Tests.{eqb-true, eqb-false, eq-eqb, ne-eqb}
 use lib.Dec.{eqb}
 use Rattle.terms.specs.Lists.{every}
 use Rattle.terms.specs.Reply.{onAccept}
 use Rattle.terms.proofs.Rows.{and-left, and-right, truth}
-use Rattle.geometry.specs.Limits.{none}
+use Rattle.geometry.proofs.Bounds.{within-limits}
+use Rattle.geometry.specs.Limits.{none, geometryOf}
 use Rattle.geometry.specs.Report.{marked, withOut, withLost}
 use Rattle.geometry.specs.declared.State.{State}
 use Rattle.array.specs.Refusals.{opened as openedState}
@@ -186,3 +187,49 @@ pub state-kept : {w : World} {a : Account} → History play w a → w .state ≡
 state-kept (opened g out table work image ok) = unfold openedAccount in open-state g out table work image ok
 state-kept (next {w} {a} h e) = same-after w a (state-kept h) e
 state-kept (decayed h image d) = state-kept h
+
+-- ---- and of ours the other way: where the array is not lost, all cards are the one that is out
+
+record Told (st : State) (cards : List ℕ) : Type 0 where
+  each-out : every (λ d. eqb d (st .out)) cards ≡ true
+  none-told : st .out ≡ none → cards ≡ []
+
+-- the first report that is accepted, of a card
+first-told : (w : World) (a : Account) → w .state ≡ a .state → (c : ℕ) → play w (report c) .reply .number ≡ 0 → reported (a .state) c .lost ≡ 0
+    → (cards : List ℕ) → Told (a .state) cards → Told (reported (a .state) c) (c ∷ cards)
+unfolding every
+first-told w a same c ok whole cards told =
+    rw (report-noted (a .state) c another) (go (truth (eqb (a .state .out) none)) (rw (report-noted (a .state) c another) at whole))
+  where
+    another : ¬ (c ≡ a .state .out)
+    another e = report-tests w c ok .another (e ∙ ap (λ (st : State). st .out) (sym same))
+
+    no-none : ¬ (c ≡ none)
+    no-none e = omega (arith, report-tests w c ok .card-below, within-limits (geometryOf (w .state)) (w .state .out) (report-tests w c ok .limits) .cards-high)
+
+    go : (eqb (a .state .out) none ≡ true) ⊎ (eqb (a .state .out) none ≡ false) → marked (a .state) c .lost ≡ 0 → Told (marked (a .state) c) (c ∷ cards)
+    go (inl f) lost =
+        unfold marked in
+        rw (f, told .none-told (eqb-true (a .state .out) none f)) (record { each-out = rw (eq-eqb c c refl); none-told = λ e. absurd (no-none e) })
+    go (inr f) lost = let l : _≡_ {A = ℕ} 1 0 = unfold marked in (rw f at lost) in absurd (omega arith)
+
+all-told : {w : World} {a : Account} (h : History play w a) → Whole a → Told (a .state) (cardsOut h)
+unfolding cardsOut every openedState openedAccount Whole
+all-told (opened g out table work image ok) whole = go (truth (eqb out none))
+  where
+    go : (eqb out none ≡ true) ⊎ (eqb out none ≡ false) → Told (openedState g out) (cond (eqb out none) [] (out ∷ []))
+    go (inl f) = rw f (record { each-out = refl; none-told = λ e. refl })
+    go (inr f) = rw f (record { each-out = rw (eq-eqb out out refl); none-told = λ e. absurd (eqb-false out none f e) })
+all-told (next {w} {a} h e) whole = go (all-told h (whole-call play w a e whole)) (noted-state play w a e)
+  where
+    go : Told (a .state) (cardsOut h) → ((d : ℕ) × Reports play w a e d) ⊎ Reportless play w a e
+        → Told (noted play w a e .state) (onAccept (play w e .reply .number) (reportedIn e) [] ++ cardsOut h)
+    go before (inl (d, r)) =
+        rw (r .state-noted, r .card-noted)
+        (first-told w a (state-kept h) d (rw (r .is-report) at (r .is-accepted)) (rw (r .state-noted) at whole) (cardsOut h) before)
+    go before (inr r) = rw (r .state-stays, r .none-noted) before
+all-told (decayed h image d) whole = all-told h whole
+
+pub one-card-only : {w : World} {a : Account} (h : History play w a) → Whole a → OneCard h
+unfolding OneCard
+one-card-only {w} {a} h whole = (a .state .out, all-told h whole .each-out)
