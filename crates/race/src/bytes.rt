@@ -1,4 +1,5 @@
-// The bytes of touches, and of cards.
+// The bytes of touches, and what a card held.
+use crate::desk::Desk;
 use geometry::State;
 
 // The bytes of some touches from number j on, sixteen a touch; none where they are not all there.
@@ -22,17 +23,6 @@ pub(crate) fn touch(touches: &[u8], j: u64) -> &[u8] {
     touches_from(touches, j, 1)
 }
 
-// Fills every block of a card with noise.
-pub(crate) fn noise(state: State, card: u64, image: &mut [u8]) {
-    let rubbish = [0xa5u8; 16];
-    let stripes = state.stripes;
-    let mut stripe = 0;
-    while stripe < stripes {
-        block::carry(image, state.cell_at(card, stripe), &rubbish, 0, 16);
-        stripe += 1;
-    }
-}
-
 // Adds what every card but one holds in a stripe to a sum.
 fn add_others(sum: &mut [u8; 512], state: State, card: u64, stripe: u64, image: &[u8]) {
     let cards = state.cards;
@@ -50,9 +40,13 @@ fn copy_front(block: &mut [u8], sum: &[u8; 512]) {
     block::copy(block, sum);
 }
 
-// Puts what a card held in a stripe, inferred from the other cards, into a block: their exclusive or.
-pub(crate) fn infer(block: &mut [u8], state: State, card: u64, stripe: u64, image: &[u8]) {
+// What a card held in a stripe, inferred from the other cards: their exclusive or.
+pub(crate) fn inferred(desk: Desk, card: u64, stripe: u64) -> [u8; 16] {
+    let state = desk.state;
+    let image = desk.image;
     let mut sum = [0u8; 512];
-    add_others(&mut sum, state, card, stripe, image);
-    copy_front(block, &sum);
+    add_others(&mut sum, state, card, stripe, &image);
+    let mut block = [0u8; 16];
+    copy_front(&mut block, &sum);
+    block
 }

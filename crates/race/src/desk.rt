@@ -1,17 +1,40 @@
-// The race desk: the state and the table by value, and the calls over them, with the changed record put back into the table.
-use array::answers::Admission;
-use array::answers::Collection;
-use array::answers::Stepping;
+// The race desk: all that goes from call to call, by value, and the library's calls over it, with the changed record put back into the table.
+use array::answers::Admitted;
+use array::answers::Collected;
+use array::answers::Stepped;
 use geometry::Placed;
 use geometry::State;
 use parity::Scan;
 use record::Record;
 use record::Table;
 
-// The state and the table that go from call to call.
+// The state, the table, the work store and the image.
 pub struct Desk {
     pub state: State,
     pub table: Table,
+    pub work: [u8; 320],
+    pub image: [u8; 400],
+}
+
+// A desk after an admission, what admit answered, and the record that was taken with its place.
+pub struct Asked {
+    pub desk: Desk,
+    pub answer: Admitted,
+    pub record: Record,
+    pub place: u64,
+}
+
+// A desk after a step, and what step answered.
+pub struct Made {
+    pub desk: Desk,
+    pub answer: Stepped,
+}
+
+// A desk after a collection, what collect answered, and the result buffer.
+pub struct Given {
+    pub desk: Desk,
+    pub answer: Collected,
+    pub result: [u8; 16],
 }
 
 // Where a block is: its card and stripe, its unit there, and the mask of that unit alone.
@@ -97,25 +120,16 @@ fn spot_of(state: State, card: u64, stripe: u64) -> Spot {
     }
 }
 
+// Where a block is; past the last card and stripe where there is no such block.
+pub(crate) fn place_of(state: State, block: u64) -> Spot {
+    match state.geometry().place(block) {
+        Placed::At { card, stripe } => spot_of(state, card, stripe),
+        Placed::Beyond => spot_of(state, state.cards, state.stripes),
+        Placed::OutOfRange => spot_of(state, state.cards, state.stripes),
+    }
+}
+
 impl Desk {
-    // The desk with a record at a place of its table.
-    pub(crate) fn with(self, place: u64, r: Record) -> Desk {
-        let state = self.state;
-        let old = self.table;
-        let table = with(old, place, r);
-        Desk { state, table }
-    }
-
-    // Where a block is; past the last card and stripe where there is no such block.
-    pub(crate) fn spot(self, block: u64) -> Spot {
-        let state = self.state;
-        match state.geometry().place(block) {
-            Placed::At { card, stripe } => spot_of(state, card, stripe),
-            Placed::Beyond => spot_of(state, state.cards, state.stripes),
-            Placed::OutOfRange => spot_of(state, state.cards, state.stripes),
-        }
-    }
-
     // The record at a place.
     pub(crate) fn record(self, i: u64) -> Record {
         let table = self.table;
@@ -134,46 +148,131 @@ impl Desk {
     }
 
     // Whether another desk has the same records at the two places of the race's table.
-    pub(crate) fn agrees(self, other: Desk) -> bool {
+    pub(crate) fn same_table(self, other: Desk) -> bool {
         if !agree(self.record(0), other.record(0)) {
             return false;
         }
         agree(self.record(1), other.record(1))
     }
 
+    // Whether another desk has the same work store.
+    pub(crate) fn same_work(self, other: Desk) -> bool {
+        let a = self.work;
+        let b = other.work;
+        check::same(&a, &b)
+    }
+
     // Admits a request of one stripe.
-    pub(crate) fn admit(
-        self,
-        work: &mut [u8],
-        image: &[u8],
-        write: bool,
-        stripe: u64,
-        mask: u64,
-        payload: &[u8],
-    ) -> Admission {
+    pub(crate) fn admit(self, write: bool, stripe: u64, mask: u64, payload: &[u8]) -> Asked {
         let state = self.state;
-        let table = self.table;
-        array::admit(state, table, work, image, write, stripe, mask, payload)
+        let before = self.table;
+        let mut work = self.work;
+        let image = self.image;
+        let made = array::admit(
+            state,
+            before,
+            &mut work,
+            &image,
+            write,
+            stripe,
+            mask,
+            payload,
+        );
+        let answer = made.answer;
+        let record = made.record;
+        let place = made.place;
+        let table = with(before, place, record);
+        let desk = Desk {
+            state,
+            table,
+            work,
+            image,
+        };
+        Asked {
+            desk,
+            answer,
+            record,
+            place,
+        }
     }
 
     // Takes step k of record i.
-    pub(crate) fn step(self, work: &mut [u8], image: &mut [u8], i: u64, k: u64) -> Stepping {
+    pub(crate) fn step(self, i: u64, k: u64) -> Made {
         let state = self.state;
-        let table = self.table;
-        array::step(state, table, work, image, i, k)
+        let before = self.table;
+        let mut work = self.work;
+        let mut image = self.image;
+        let made = array::step(state, before, &mut work, &mut image, i, k);
+        let answer = made.answer;
+        let r = made.record;
+        let table = with(before, made.place, r);
+        let desk = Desk {
+            state,
+            table,
+            work,
+            image,
+        };
+        Made { desk, answer }
     }
 
     // Collects record i.
-    pub(crate) fn collect(self, work: &[u8], i: u64, result: &mut [u8]) -> Collection {
+    pub(crate) fn collect(self, i: u64) -> Given {
         let state = self.state;
-        let table = self.table;
-        array::collect(state, table, work, i, result)
+        let before = self.table;
+        let work = self.work;
+        let image = self.image;
+        let mut result = [0u8; 16];
+        let made = array::collect(state, before, &work, i, &mut result);
+        let answer = made.answer;
+        let r = made.record;
+        let table = with(before, made.place, r);
+        let desk = Desk {
+            state,
+            table,
+            work,
+            image,
+        };
+        Given {
+            desk,
+            answer,
+            result,
+        }
     }
 
     // Scans the stripes that no open request holds.
-    pub(crate) fn scan(self, image: &[u8]) -> Scan {
+    pub(crate) fn scan(self) -> Scan {
         let state = self.state;
         let table = self.table;
-        array::scan(state, table, image)
+        let image = self.image;
+        array::scan(state, table, &image)
+    }
+
+    // The desk with every block of a card turned to noise.
+    pub(crate) fn noisy(self, card: u64) -> Desk {
+        let state = self.state;
+        let table = self.table;
+        let work = self.work;
+        let mut image = self.image;
+        let noise = [0xa5u8; 80];
+        block::carry(&mut image, state.cell_at(card, 0), &noise, 0, 80);
+        Desk {
+            state,
+            table,
+            work,
+            image,
+        }
+    }
+
+    // The desk with another state.
+    pub(crate) fn in_state(self, state: State) -> Desk {
+        let table = self.table;
+        let work = self.work;
+        let image = self.image;
+        Desk {
+            state,
+            table,
+            work,
+            image,
+        }
     }
 }

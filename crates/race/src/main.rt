@@ -8,6 +8,7 @@ mod bytes;
 mod desk;
 mod requests;
 mod scenes;
+mod script;
 mod told;
 
 // The race's array: five cards, five stripes, a touch in each block of 16 bytes, two requests at a time.
@@ -21,27 +22,28 @@ fn shape() -> Geometry {
 }
 
 // Opens the array over blank cards.
-fn opened(work: &[u8], image: &[u8]) -> Desk {
+fn opened() -> Desk {
     let table = desk::blank(2);
-    let opening = array::open(shape(), NONE, table, work, image);
+    let work = [0u8; 320];
+    let image = [0u8; 400];
+    let opening = array::open(shape(), NONE, table, &work, &image);
     let answer = opening.answer;
     let state = opening.state;
     told::opened(answer, state);
-    Desk { state, table }
-}
-
-// The touches of the race, with a card that dies among them.
-fn swum(desk: Desk, first: &[u8], last: &[u8], work: &mut [u8], image: &mut [u8]) -> Desk {
-    let desk = scenes::first_lap(desk, first, work, image);
-    let desk = scenes::card_dies(desk, last, work, image);
-    scenes::race_goes_on(desk, last, work, image)
+    Desk {
+        state,
+        table,
+        work,
+        image,
+    }
 }
 
 // The race, from the opening to the last reading, given the first touch of each swimmer and the last.
-fn race(first: &[u8], last: &[u8], work: &mut [u8], image: &mut [u8]) {
-    let desk = opened(work, image);
-    let desk = swum(desk, first, last, work, image);
-    scenes::read_back(desk, last, work, image);
+fn race(first: &[u8], last: &[u8]) {
+    let desk = scenes::first_lap(opened(), first);
+    let desk = scenes::card_dies(desk, last);
+    let desk = scenes::race_goes_on(desk, last);
+    scenes::read_back(desk, last);
 }
 
 fn main() {
@@ -49,7 +51,5 @@ fn main() {
         b"chip 01 12:04.31chip 02 12:04.33chip 03 12:04.70chip 04 12:04.98chip 05 12:06.12chip 06 12:06.15chip 07 12:06.40chip 08 12:07.02";
     let last =
         b"chip 01 12:04.31chip 02 12:04.30chip 03 12:04.70chip 04 12:04.98chip 05 12:18.77chip 06 12:18.79chip 07 12:06.40chip 08 12:07.02";
-    let mut work = [0u8; 320];
-    let mut image = [0u8; 400];
-    race(first, last, &mut work, &mut image);
+    race(first, last);
 }

@@ -1,29 +1,20 @@
--- `race::requests::run` is safe and ends: the measure is the number of turns that are left. The work store and the image stay as long as
--- they are.
+-- `race::requests::run` is safe and ends: the measure is the number of turns that are left. Nothing has to hold from turn to turn.
 -- Assumes nothing.
-use mathlib.Core.Path.{_≡_}
 use borrow.Author.Needs.{needs}
-use lib.ListN.{length}
 use Rattle.race.proofs.requests.run.Statement.{statement}
 use Rattle.race.proofs.requests.run.Tie as tie
 
 abbrev Inv-loop : tie.InvT-loop
-Inv-loop work₀ image₀ i most aloud now₀ left₀ work image now left = (length work ≡ length work₀) × (length image ≡ length image₀)
+Inv-loop i most aloud now₀ left₀ now left = Unit {0}
 
 abbrev μ-loop : tie.MeasureT-loop
-μ-loop work₀ image₀ i most aloud now₀ left₀ work image now left = left
+μ-loop i most aloud now₀ left₀ now left = left
 
 loop-holds : tie.Need-loop-holds Inv-loop μ-loop
 loop-holds c = search needs
 
 record-requires : tie.Need-record-requires Inv-loop μ-loop
 record-requires c κs = search needs
-
-same-length : tie.Need-same-length Inv-loop μ-loop
-same-length c = search needs
-
-same-length-2 : tie.Need-same-length-2 Inv-loop μ-loop
-same-length-2 c = search needs
 
 returns : tie.Need-returns Inv-loop μ-loop
 returns c = search needs
@@ -43,12 +34,6 @@ loop-less c = search needs
 loop-again : tie.Need-loop-again Inv-loop μ-loop
 loop-again c = search needs
 
-same-length-3 : tie.Need-same-length-3 Inv-loop μ-loop
-same-length-3 c = search needs
-
-same-length-4 : tie.Need-same-length-4 Inv-loop μ-loop
-same-length-4 c = search needs
-
 returns-2 : tie.Need-returns-2 Inv-loop μ-loop
 returns-2 c = search needs
 
@@ -60,14 +45,10 @@ run-spec =
     μ-loop
     loop-holds
     record-requires
-    same-length
-    same-length-2
     returns
     next-requires
     step-requires
     sub-left
     loop-less
     loop-again
-    same-length-3
-    same-length-4
     returns-2)

@@ -1,21 +1,17 @@
--- `race::scenes::read_all` is safe and ends: the measure is the number of swimmers that are left. No more touches came back than were read,
--- and the work store and the image stay as long as they are.
+-- `race::scenes::read_all` is safe and ends: the measure is the number of swimmers that are left. No more touches came back than were read.
 -- Assumes nothing.
 use Prim.Native.Nat.{_-_, _≤_}
 use mathlib.Core.Logic.{⊎-elim}
-use mathlib.Core.Path.{_≡_}
 use native.Mathlib.Omega.{arith}
 use borrow.Author.Needs.{needs}
-use lib.ListN.{length}
 use Rattle.race.proofs.scenes.read_all.Statement.{statement}
 use Rattle.race.proofs.scenes.read_all.Tie as tie
 
 abbrev Inv-loop : tie.InvT-loop
-Inv-loop last work₀ image₀ now₀ same₀ block₀ work image now same block =
-    (same ≤ block) × (length work ≡ length work₀) × (length image ≡ length image₀)
+Inv-loop last now₀ same₀ block₀ now same block = same ≤ block
 
 abbrev μ-loop : tie.MeasureT-loop
-μ-loop last work₀ image₀ now₀ same₀ block₀ work image now same block = 8 - block
+μ-loop last now₀ same₀ block₀ now same block = 8 - block
 
 loop-holds : tie.Need-loop-holds Inv-loop μ-loop
 loop-holds c = search needs
@@ -33,13 +29,7 @@ loop-less : tie.Need-loop-less Inv-loop μ-loop
 loop-less c = search needs
 
 loop-again : tie.Need-loop-again Inv-loop μ-loop
-loop-again c = (⊎-elim (λ w. omega arith) (λ w. omega arith) (c .before .if1 .came), search needs, search needs)
-
-same-length : tie.Need-same-length Inv-loop μ-loop
-same-length c = search needs
-
-same-length-2 : tie.Need-same-length-2 Inv-loop μ-loop
-same-length-2 c = search needs
+loop-again c = ⊎-elim (λ w. omega arith) (λ w. omega arith) (c .before .if1 .came)
 
 returns : tie.Need-returns Inv-loop μ-loop
 returns c = search needs
@@ -56,6 +46,4 @@ read-all-spec =
     add-block
     loop-less
     loop-again
-    same-length
-    same-length-2
     returns)
