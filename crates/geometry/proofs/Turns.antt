@@ -4,7 +4,6 @@ use Prim.Native.Nat.{ℕ, zero-le, _+_, _-_, _%_, _≤_, _<_}
 use mathlib.Core.Path.{_≡_, ap, _∙_}
 use native.Mathlib.Nat.{lt-of-le-of-lt, mod-lt, mod-eq-of-lt, add-mod-left}
 use native.Mathlib.Omega.{arith}
-pub use Rattle.geometry.proofs.Placing.{cardIn-is}
 use Rattle.geometry.specs.Placement.{parityCard, cardAt, positionOf}
 
 module _ (N s i : ℕ) where
