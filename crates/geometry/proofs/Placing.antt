@@ -1,6 +1,6 @@
 -- The one door between the layouts and all that stands above them. A layout is a placement (`Placing`): in each stripe positions and cards are in
 -- bijection. What follows from that law alone is proved here, for any card and position functions; and the layout of an array is shown to meet it.
--- No file above geometry looks into a layout, or uses more of one than stands here.
+-- No proof above geometry looks into a layout, or uses more of one than stands here; but for examples, which compute.
 --
 -- What another layout gives: its definition, a clause of `cardAt` and `positionOf` in specs/Placement; its law, `Placing` of that clause, as proofs/Places
 -- has it of the left-symmetric one; and its number, by which these definitions, `placed` below and the code of `card_at` and `missing_at` choose.

@@ -12,8 +12,7 @@ use Rattle.terms.specs.Reply.{refused}
 use Rattle.terms.proofs.Rows.{truth}
 use Rattle.geometry.proofs.Bounds.{within-limits}
 use Rattle.geometry.specs.Limits.{geometryOf, none, beyondState}
-use Rattle.geometry.proofs.Missing.{none-missing}
-use Rattle.geometry.specs.Placement.{outIn}
+use Rattle.geometry.proofs.Missing.{out-none, out-lost, none-missing}
 use Rattle.geometry.specs.Report.{marked, withOut, withLost}
 use Rattle.geometry.specs.declared.State.{State}
 use Rattle.graph.specs.Steps.{stepOf}
@@ -107,21 +106,19 @@ module _ (w : World) (image′ : List ℕ) (same : Decayed (w .state) (w .image)
 
   -- with none out, images that agree on the cards that work agree on all, so also on those that work when one goes out
   out-same : (c : ℕ) → beyondState (w .state) ≡ false → w .state .out ≡ none → Decayed (withOut (w .state) c) (w .image) image′
-  unfolding outIn
   out-same c limits o =
       record {
         same-length = same .same-length;
         same-bytes = λ d s b hd hs hb works.
             same .same-bytes d s b hd hs hb
-            (none-missing (w .state) d s (omega (arith, within-limits (geometryOf (w .state)) (w .state .out) limits .cards-high)));
+            (none-missing (w .state) d s (omega (arith, out-none (w .state) s o, within-limits (geometryOf (w .state)) (w .state .out) limits .cards-high)));
       }
 
   lost-same : Decayed (withLost (w .state)) (w .image) image′
-  unfolding outIn
   lost-same =
       record {
         same-length = same .same-length;
-        same-bytes = λ c s b hc hs hb works. same .same-bytes c s b hc hs hb (λ m. works (record { is-card = m .is-card; is-out = m .is-out }));
+        same-bytes = λ c s b hc hs hb works. same .same-bytes c s b hc hs hb (λ m. works (record { is-card = m .is-card; is-out = m .is-out ∙ sym (out-lost (w .state) s) }));
       }
 
   -- a report alters the state, of both alike, and does not look at the image

@@ -11,6 +11,7 @@ use lib.ListN.{length, replicate, length-replicate, getD-replicate}
 use Rattle.terms.specs.Reply.{row}
 use Rattle.terms.proofs.Rows.{true≢false}
 use Rattle.geometry.proofs.Bounds.{Bounds, within-limits, within-limits-out}
+use Rattle.geometry.proofs.Missing.{out-everywhere}
 use Rattle.geometry.proofs.Placing.{placed-in, missingAt-is}
 use Rattle.geometry.specs.Limits.{none}
 use Rattle.geometry.specs.Placement.{outIn}
@@ -49,12 +50,13 @@ module _ (g : Geometry) (out : ℕ) (table : List Record) (work image : List ℕ
 
     -- with none out parity is right
     right-parity : (s b : ℕ) → s < g .stripes → b < g .block → st .cards ≤ missingIn st s → parityByte (g .cards) (g .stripes) (g .block) image s b ≡ 0
-    unfolding opened outIn
+    unfolding opened
     right-parity s b hs hb h = go (within-limits-out g out (tests .limits))
       where
         go : (out < g .cards) ⊎ (out ≡ none) → parityByte (g .cards) (g .stripes) (g .block) image s b ≡ 0
         go (inl l) =
-            absurd (omega (arith, missingAt-is (st .cards) s out l, placed-in st (omega (arith, bounds .cards-low)) .position-below s out l))
+            let below : outIn st s < st .cards = rw (out-everywhere st s) l in
+            absurd (omega (arith, missingAt-is (st .cards) s (outIn st s) below, placed-in st (omega (arith, bounds .cards-low)) .position-below s (outIn st s) below))
         go (inr e) =
             right-elim (g .cards) (g .stripes) (g .block) image nothingHeld (not-false _ (rw (eq-eqb out none e) at (tests .parity))) s b hs hb refl
 
@@ -68,7 +70,7 @@ module _ (g : Geometry) (out : ℕ) (table : List Record) (work image : List ℕ
     all-free i h = getD-replicate (length table) i free free h
 
     sure-start : Sure start first
-    unfolding opened outIn
+    unfolding opened
     sure-start =
         record {
           right = record {

@@ -7,8 +7,8 @@ use mathlib.Core.Path.{_≡_, refl, ap}
 use borrow.Author.Tests.{lt-ltb, not-false}
 use lib.Dec.{eqb, ltb}
 use Rattle.terms.proofs.Rows.{and-left, and-both}
+use Rattle.geometry.proofs.Missing.{out-none}
 use Rattle.geometry.specs.Limits.{none, legal, legalOut, beyond, beyondState}
-use Rattle.geometry.specs.Placement.{outIn}
 use Rattle.geometry.specs.Report.{withOut}
 use Rattle.geometry.specs.declared.State.{State}
 use Rattle.history.specs.Account.{Account}
@@ -29,6 +29,5 @@ module _ (w : World) (a : Account) (sure : Sure w a) (c : ℕ) (none-out : w .st
 
   pub report-sure : Sure (record { state = withOut st c; table = w .table; work = w .work; image = w .image })
       (record { state = withOut st c; row = a .row; entry = a .entry })
-  unfolding outIn
   report-sure =
-      onward-sure w a sure (withOut st c) (record { same-geometry = refl; stays = λ s h. inr none-out }) within-now (sure .right .whole) (withOut st c)
+      onward-sure w a sure (withOut st c) (record { same-geometry = refl; stays = λ s h. inr (out-none st s none-out) }) within-now (sure .right .whole) (withOut st c)

@@ -13,6 +13,7 @@ use Rattle.terms.proofs.Rows.{and-left, and-right}
 use Rattle.terms.proofs.Sets.{lowest-le}
 use Rattle.geometry.proofs.Bounds.{within-limits}
 use Rattle.geometry.specs.Limits.{none, beyond, beyondState, isLost, geometryOf}
+use Rattle.geometry.proofs.Missing.{out-none}
 use Rattle.geometry.specs.Placement.{outIn}
 use Rattle.geometry.specs.Store.{imageWrong, workWrong}
 use Rattle.geometry.specs.declared.Geometry.{Geometry}
@@ -87,8 +88,7 @@ open-hit false false false e = absurd (omega arith)
 module _ (st : State) (image image′ : List ℕ) (same : Decayed st image image′) where
   -- within the limits 255 is no card
   none-out : beyondState st ≡ false → st .out ≡ none → (s : ℕ) → ¬ (outIn st s < st .cards)
-  unfolding outIn
-  none-out limits out s h = omega (arith, within-limits (geometryOf st) (st .out) limits .cards-high)
+  none-out limits out s h = omega (arith, out-none st s out, within-limits (geometryOf st) (st .out) limits .cards-high)
 
   module _ (table : List Record) where
     abbrev v : Survey
@@ -121,8 +121,8 @@ module _ (st : State) (image image′ : List ℕ) (same : Decayed st image image
 
 module _ (g : Geometry) (out : ℕ) (table : List Record) (work image image′ : List ℕ) (same : Decayed (opened g out) image image′) where
   none-open : beyond g out ≡ false → out ≡ none → (s : ℕ) → ¬ (outIn (opened g out) s < g .cards)
-  unfolding opened outIn
-  none-open limits o s h = omega (arith, within-limits g out limits .cards-high)
+  unfolding opened
+  none-open limits o s h = omega (arith, out-none (opened g out) s o, within-limits g out limits .cards-high)
 
   right-open : beyond g out ≡ false → out ≡ none
       → rightParity (g .cards) (g .stripes) (g .block) image′ nothingHeld ≡ rightParity (g .cards) (g .stripes) (g .block) image nothingHeld

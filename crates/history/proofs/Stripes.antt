@@ -17,6 +17,7 @@ use Rattle.terms.proofs.Sets.{xorTo-cong}
 use Rattle.block.proofs.Sums.{others, sum-zero-term}
 use Rattle.geometry.proofs.Bounds.{Bounds}
 use Rattle.geometry.specs.Limits.{none}
+use Rattle.geometry.proofs.Missing.{out-none}
 use Rattle.geometry.proofs.Placing.{placed-in, missingAt-none, missing-position, position-missing}
 use Rattle.geometry.specs.Placement.{cardOfPosition, positionOfCard, cardOfBlock, Missing, outIn, stripeOf, unitOf, blockOf}
 use Rattle.geometry.specs.Placing.{Placing}
@@ -115,12 +116,11 @@ module _ (w : World) (a : Account) (sure : Sure w a) where
 
     -- and with none missing the parity is right
     parity-right : st .out ≡ none → (b : ℕ) → b < st .block → parityByte N (st .stripes) (st .block) (w .image) s b ≡ 0
-    unfolding outIn
     parity-right out b hb =
         parity-sum N (st .stripes) (st .block) placing (w .image) s b
         ∙ xorTo-cong N (cellsOf st (w .image) s b) (rowOf st (a .row) s b)
         (λ p l. sure .resting s hs idle b hb .holds p (omega arith)
-        (λ e. omega (arith, missingAt-none N s (st .out) (omega (arith, limits .cards-high)))))
+        (λ e. omega (arith, missingAt-none N s (outIn st s) (omega (arith, out-none st s out, limits .cards-high)))))
         ∙ row-none b hb
 
   -- ---- by block number
