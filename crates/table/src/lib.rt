@@ -5,10 +5,12 @@ ghost use lib.ListN.{length, getD, set, replicate};
 ghost use mathlib.Core.Bool.{cond};
 ghost use Rattle.record.specs.Life.{free};
 ghost use Rattle.record.specs.Marks.{markIn, marksOf};
+ghost use Rattle.record.specs.Survey.{surveyOf};
 use geometry::NO_STRIPE;
 use geometry::State;
 use record::Marks;
 use record::Record;
+use record::Survey;
 
 // How many records the table has.
 pub fn count(table: &[Record]) -> u64
@@ -63,6 +65,22 @@ pub fn marked(table: &[Record], state: State) -> Marks
         i += 1;
     }
     Marks { marks, len: n }
+}
+
+// What one look at the table finds.
+pub fn surveyed(table: &[Record], state: State) -> Survey
+    ensures { λ r. ⌜ r ≡ surveyOf state (now (table .entry)) ⌝ }
+{
+    let n = count(table);
+    let top = Survey::to_see(state, n);
+    let mut survey = Survey::started(state, n);
+    let mut i: u64 = 0;
+    while i < top {
+        let r = at(table, i);
+        survey = survey.seen(state, i, r);
+        i += 1;
+    }
+    survey
 }
 
 // Every record is freed, where that is asked.
