@@ -1,44 +1,145 @@
--- What the code of an accepted step rests on: the record is sound, so a step of it can be counted, and the graph is chosen afresh as the paper says.
+-- What an accepted call by a survey rests on: the premises of what it then does.
 -- Assumes nothing.
-use Prim.Native.Nat.{ℕ}
-use mathlib.Core.Bool.{true}
-use mathlib.Core.List.{List}
-use mathlib.Core.Path.{_≡_}
-use lib.ListN.{getD}
+use Prim.Native.Nat.{ℕ, _^_, _<_}
+use mathlib.Core.Bool.{Bool, true, false, not, _&&_, _||_}
+use mathlib.Core.List.{List, _++_}
+use mathlib.Core.Path.{_≡_, refl, sym, _∙_}
+use native.Mathlib.Omega.{arith}
+use borrow.Author.Tests.{le-leb, leb-false, eqb-true, ltb-true, ltb-false, not-false, ne-eqb}
+use lib.Dec.{ltb, leb, eqb}
+use lib.ListN.{length}
+use Rattle.terms.specs.Lists.{every}
+use Rattle.terms.proofs.Refusals.{Failed, giving, zero-failed, failed-first, failed-second}
+use Rattle.terms.proofs.Rows.{and-right, or-false-left, or-false-right}
+use Rattle.geometry.specs.Limits.{beyondState}
+use Rattle.geometry.specs.Store.{legalState, imageWrong, workWrong, imageSize, workSize}
 use Rattle.geometry.specs.declared.State.{State}
-use Rattle.graph.specs.Order.{ready}
-use Rattle.record.specs.Asked.{fewIn, steppedOr, afreshOr}
-use Rattle.record.specs.Life.{free, unitsOf, chosenAt, stepped, afresh}
-use Rattle.record.specs.Sound.{soundRecord}
+use Rattle.geometry.proofs.Bounds.{legal-bounds, bounds-legal}
+use Rattle.geometry.proofs.Lengths.{state-bounds, image-length, work-length}
+use Rattle.graph.specs.Asked.{fewUnits}
+use Rattle.graph.specs.Sums.{sumsToRead}
+use Rattle.record.specs.Asked.{fewIn, readyIn, steppedOr, afreshOr}
+use Rattle.record.specs.Life.{isOpen, isFinished, isWrite, isFree, unitsOf, chosenAt, stepped, afresh}
+use Rattle.record.specs.Sound.{soundRecord, legalMask}
 use Rattle.record.specs.declared.Record.{Record}
+use Rattle.record.specs.declared.Survey.{Survey}
 use Rattle.record.proofs.Soundness as soundness
-use Rattle.array.specs.Refusals.{stepReady}
-use Rattle.array.proofs.Choices.{choose-some}
-use Rattle.array.proofs.Passed.{Ready}
-use Rattle.array.proofs.Told.{right-fine, few-units}
+use Rattle.array.specs.Lent.{tableWrong, lentRows, unitBytes}
+use Rattle.array.specs.Premises.{Keeping, Standing}
+use Rattle.array.specs.Refusals.{admitRefusal, admitRows, stepRefusal, stepRows, collectRefusal, collectRows, payloadWrong, resultShort, stepReady}
+use Rattle.array.proofs.Choices.{choose-two, choose-some}
+use Rattle.array.proofs.Lent.{passed-rows}
 
-module _ (st : State) (table : List Record) (work image : List ℕ) (i k : ℕ) (a : Ready st table work image i k) where
-  abbrev the-record : Record
-  the-record = getD table i free
+pub few-legal : (st : State) → legalState st ≡ true → fewIn st ≡ true
+unfolding fewUnits
+few-legal st l = le-leb (unitsOf st) 7 (omega (arith, legal-bounds _ _ _ _ l))
 
-  few : fewIn st ≡ true
-  few = few-units st table (right-fine st table work image (a .right))
+module _ (st : State) (b : beyondState st ≡ false) where
+  pub legal-state : legalState st ≡ true
+  legal-state = bounds-legal _ _ _ _ (state-bounds st b)
 
-  is-sound : soundRecord st the-record ≡ true
-  is-sound = soundness.sound-record st table (a .right .is-sound) i
+  pub few-units : fewIn st ≡ true
+  few-units = few-legal st legal-state
 
-  is-ready : ready (unitsOf st) (the-record .graph) (the-record .mask) (chosenAt st the-record) (the-record .done) k ≡ true
-  unfolding stepReady
-  is-ready = a .is-ready
+-- whether a step is ready, as the code asks
+pub ready-is : (st : State) (r : Record) (k : ℕ) → beyondState st ≡ false → readyIn st r k ≡ stepReady st r k
+unfolding readyIn stepReady
+ready-is st r k b = rw (few-units st b)
 
-  -- the code's record after the step is the paper's
-  pub stepped-is : steppedOr st the-record k ≡ stepped st the-record k
-  stepped-is = soundness.stepped-is st the-record is-sound (a .is-open) few k is-ready
+-- a mask that is legal has units only
+pub mask-below : (n mask : ℕ) → legalMask n mask ≡ true → mask < 2 ^ n
+unfolding legalMask
+mask-below n mask e = ltb-true mask (2 ^ n) (and-right (not (eqb mask 0)) (ltb mask (2 ^ n)) e)
 
-  pub afresh-is : afreshOr st the-record ≡ afresh st the-record
-  afresh-is = soundness.afresh-is st the-record is-sound (a .is-open) few
+-- a record of phase 1 or 2 is not free
+busy : (r : Record) (k : ℕ) → ¬ (k ≡ 0) → eqb (r .phase) k ≡ true → isFree r ≡ false
+busy r k h e = ne-eqb (r .phase) 0 (λ z. h (sym (eqb-true (r .phase) k e) ∙ z))
 
-  -- a fresh choice names a graph
-  pub afresh-some : ¬ (afresh st the-record .graph ≡ 0)
-  unfolding afresh
-  afresh-some = choose-some _ _ _ _
+-- X of a sound record whose exclusive or is of X is one of the stripe's positions
+chosen-below : (st : State) (r : Record) → legalState st ≡ true → soundRecord st r ≡ true → isOpen r ≡ true → sumsToRead (r .graph) ≡ true
+    → chosenAt st r < st .cards
+unfolding sumsToRead
+chosen-below st r l s o g =
+    let a = soundness.sound-elim st r s (busy r 1 (λ z. omega arith) o) in
+    let x = choose-two (unitsOf st) (isWrite r) (r .mask) (chosenAt st r) (sym (a .right-graph) ∙ eqb-true (r .graph) 2 g) in
+    omega arith
+
+module _ (st : State) (v : Survey) (r : Record) (work image : List ℕ) (i k : ℕ) where
+  -- an accepted step: it can be done, and the record after it is the paper's
+  pub record Stepped : Type 0 where
+    pub standing : Standing st work image i r
+    pub done : steppedOr st r k ≡ stepped st r k
+    pub afresh : afreshOr st r ≡ afresh st r
+
+  pub step-accepted : stepRefusal st v r work image i k ≡ 0 → Stepped
+  unfolding stepRefusal stepReady stepRows lentRows giving every Failed
+  step-accepted e =
+      let iw = imageWrong st image in
+      let tw = tableWrong st (v .len) in
+      let ww = workWrong st work in
+      let f : Failed (lentRows st (iw || tw || ww) (v .sound && soundRecord st r) ++ stepRows st r i k) =
+      zero-failed (lentRows st (iw || tw || ww) (v .sound && soundRecord st r) ++ stepRows st r i k) refl e in
+      let p = passed-rows st (iw || tw || ww) (v .sound && soundRecord st r) (failed-first (lentRows st (iw || tw || ww) (v .sound && soundRecord st r)) (stepRows st r i k) f) in
+      let own = failed-second (lentRows st (iw || tw || ww) (v .sound && soundRecord st r)) (stepRows st r i k) f in
+      let o = not-false (isOpen r) (own .1 .0) in
+      let sound = and-right (v .sound) (soundRecord st r) (p .is-fine) in
+      let few = few-units st (p .limits) in
+      record {
+        standing =
+            record {
+              limits = legal-state st (p .limits);
+              record-below = leb-false (st .records) i (own .0);
+              stripe-below = soundness.sound-elim st r sound (busy r 1 (λ z. omega arith) o) .in-array;
+              work-right = work-length st work (or-false-right (iw || tw) ww (p .lengths));
+              image-right = image-length st image (or-false-left iw tw (or-false-left (iw || tw) ww (p .lengths)));
+              x-below = chosen-below st r (legal-state st (p .limits)) sound o;
+            };
+        done = soundness.stepped-is st r sound o few k (not-false _ (own .1 .1 .0));
+        afresh = soundness.afresh-is st r sound o few;
+      }
+
+-- a fresh choice names a graph
+pub afresh-some : (st : State) (r : Record) → ¬ (afresh st r .graph ≡ 0)
+unfolding afresh
+afresh-some st r = choose-some _ _ _ _
+
+-- an accepted collect of a read: its units can be handed over
+pub collect-accepted : (st : State) (v : Survey) (r : Record) (work : List ℕ) (i : ℕ) (result : List ℕ) → collectRefusal st v r work i result ≡ 0
+    → isWrite r ≡ false → Keeping st i (r .mask) result work
+unfolding collectRefusal resultShort collectRows lentRows giving every Failed
+collect-accepted st v r work i result e reads =
+    let tw = tableWrong st (v .len) in
+    let ww = workWrong st work in
+    let f : Failed (lentRows st (tw || ww) (v .sound && soundRecord st r) ++ collectRows st r i result) =
+    zero-failed (lentRows st (tw || ww) (v .sound && soundRecord st r) ++ collectRows st r i result) refl e in
+    let p = passed-rows st (tw || ww) (v .sound && soundRecord st r) (failed-first (lentRows st (tw || ww) (v .sound && soundRecord st r)) (collectRows st r i result) f) in
+    let own = failed-second (lentRows st (tw || ww) (v .sound && soundRecord st r)) (collectRows st r i result) f in
+    let sound = and-right (v .sound) (soundRecord st r) (p .is-fine) in
+    record {
+      limits = legal-state st (p .limits);
+      record-below = leb-false (st .records) i (own .0);
+      units-only = soundness.sound-elim st r sound (busy r 2 (λ z. omega arith) (not-false (isFinished r) (own .1 .0))) .units-only;
+      work-right = work-length st work (or-false-right tw ww (p .lengths));
+      room = ltb-false (length result) (unitBytes st (r .mask)) (rw reads at (own .1 .1 .0));
+    }
+
+-- an accepted admission of a write: its units can be kept
+pub admit-accepted : (st : State) (v : Survey) (work image : List ℕ) (write : Bool) (s mask : ℕ) (payload : List ℕ)
+    → admitRefusal st v work image write s mask payload ≡ 0 → write ≡ true → Keeping st (v .free) mask payload work
+unfolding admitRefusal payloadWrong admitRows lentRows giving every Failed
+admit-accepted st v work image write s mask payload e w =
+    let iw = imageWrong st image in
+    let tw = tableWrong st (v .len) in
+    let ww = workWrong st work in
+    let f : Failed (lentRows st (iw || tw || ww) (v .sound) ++ admitRows st v write s mask payload) =
+    zero-failed (lentRows st (iw || tw || ww) (v .sound) ++ admitRows st v write s mask payload) refl e in
+    let p = passed-rows st (iw || tw || ww) (v .sound) (failed-first (lentRows st (iw || tw || ww) (v .sound)) (admitRows st v write s mask payload) f) in
+    let own = failed-second (lentRows st (iw || tw || ww) (v .sound)) (admitRows st v write s mask payload) f in
+    let long : not (eqb (length payload) (unitBytes st mask)) ≡ false = rw w at (own .1 .1 .0) in
+    record {
+      limits = legal-state st (p .limits);
+      record-below = leb-false (st .records) (v .free) (own .1 .1 .1 .1 .0);
+      units-only = mask-below (unitsOf st) mask (not-false _ (own .1 .0));
+      work-right = work-length st work (or-false-right (iw || tw) ww (p .lengths));
+      room = omega (arith, eqb-true (length payload) (unitBytes st mask) (not-false _ long));
+    }

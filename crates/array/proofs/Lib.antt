@@ -1,8 +1,13 @@
 -- The laws of the calls' definitions.
--- What an accepted call has passed, what is not refused, and that a refused call changes nothing
-pub mod Passed
-pub mod Granted
-pub mod Refused
+-- What is lent is right, and the calls over a table: number, what an accepted one has passed and leaves, a refused one changes nothing
+pub mod Lent
+pub mod Replies
+pub mod Openings
+pub mod Admissions
+pub mod Steppings
+pub mod Collections
+pub mod Scannings
+pub mod Reports
 -- What a step, an admission and a collect alter, block by block
 pub mod Frames
 pub mod Steps
@@ -13,21 +18,15 @@ pub mod Handed
 -- Bytes stay bytes
 pub mod Bytes
 -- What the code's proofs rest on.
--- The tests: rows 1 to 4, and then a call's own
+-- The tests: rows 1 to 4, and what an accepted call rests on
 pub mod Choices
-pub mod Given
-pub mod Told
-pub mod Lending
-pub mod Chains
-pub mod Own
+pub mod LentRows
+pub mod Accepted
 -- The work: units that are moved, blocks that are added up, a step by its kind
-pub mod Turns
 pub mod Units
 pub mod Adding
 pub mod Performed
-pub mod Within
--- What an accepted call rests on, and what the calls hand back
-pub mod Accepted
-pub mod Answered
-pub mod Looks
-pub mod Opened
+-- What the calls hand back
+pub mod Outcomes
+pub mod ScanBy
+pub mod OpeningBy

@@ -9,44 +9,35 @@ use lib.ListN.{length}
 use Rattle.terms.specs.Lists.{put, part, tabulate}
 use Rattle.terms.proofs.Lists.{length-part, getD-part, length-tabulate, getD-tabulate}
 use Rattle.geometry.proofs.Apart.{cell-inside, write-inside}
-use Rattle.geometry.specs.Placement.{cardAt, positionOf}
-use Rattle.geometry.specs.Placing.{Placing}
-use Rattle.geometry.specs.Store.{writeAt, readAt, imageSize, workSize}
+use Rattle.geometry.proofs.Asked.{BoundsOf}
+use Rattle.geometry.proofs.Bounds.{legal-bounds}
+use Rattle.geometry.proofs.Places.{cardAt-below}
+use Rattle.geometry.specs.Placement.{cardAt}
+use Rattle.geometry.specs.Store.{writeAt, readAt}
 use Rattle.geometry.specs.declared.State.{State}
 use Rattle.graph.specs.Steps.{Step, rd, xr, wr, nil}
 use Rattle.graph.specs.Sums.{sumsToRead}
 use Rattle.parity.specs.Parity.{byteAt}
 use Rattle.record.specs.Life.{unitsOf, chosenAt}
 use Rattle.record.specs.declared.Record.{Record}
+pub use Rattle.array.specs.Premises.{Within, Standing}
 use Rattle.array.specs.Stepping.{cellOf, sumByte, sumAt, workAfter, imageAfter}
 use Rattle.array.proofs.Frames.{newByte, gotByte, cell-put-length, cell-put-same, cell-put-other}
 use Rattle.array.proofs.Frames.{got-put-length, got-put-same, got-put-other, got-put-new}
 use Rattle.array.proofs.Frames.{new-put-length, new-put-same, new-put-other, new-put-got}
 
--- a step's position is one of the stripe's
-abbrev pub Within : ℕ → Step → Type 0
-Within N (rd p) = p < N
-Within N xr = Unit {0}
-Within N (wr p) = p < N
-Within N nil = Unit {0}
-
--- what a step stands on: the image and the work store have their lengths, record i, which is r, and its stripe are in range, and X, where
--- the exclusive or is of X, is one of the stripe's positions
-pub record Standing (st : State) (work image : List ℕ) (i : ℕ) (r : Record) : Type 0 where
-  pub placing : Placing (st .cards) (cardAt (st .cards)) (positionOf (st .cards))
-  pub some-card : 0 < st .cards
-  pub image-right : length image ≡ imageSize (st .cards) (st .stripes) (st .block)
-  pub work-right : length work ≡ workSize (st .cards) (st .block) (st .records)
-  pub record-below : i < st .records
-  pub stripe-below : r .stripe < st .stripes
-  pub x-below : sumsToRead (r .graph) ≡ true → chosenAt st r < st .cards
-
 module _ (st : State) (work image : List ℕ) (i : ℕ) (r : Record) (at : Standing st work image i r) where
+  bounds : BoundsOf st
+  bounds = legal-bounds _ _ _ _ (at .limits)
+
+  card-in : (p : ℕ) → cardAt (st .cards) (r .stripe) p < st .cards
+  card-in p = cardAt-below (st .cards) (omega (arith, bounds)) (r .stripe) p
+
   -- a read's block, and a write's, are of B bytes
   cell-size : (p : ℕ) → length (part (cellOf st r p) (st .block) image) ≡ st .block
   cell-size p =
       length-part (cellOf st r p) (st .block) image
-      (omega (arith, at .image-right, cell-inside (st .cards) (st .stripes) (st .block) (cardAt (st .cards) (r .stripe) p) (r .stripe) (at .placing .card-below (r .stripe) p) (at .stripe-below)))
+      (omega (arith, at .image-right, cell-inside (st .cards) (st .stripes) (st .block) (cardAt (st .cards) (r .stripe) p) (r .stripe) (card-in p) (at .stripe-below)))
 
   new-size : (p : ℕ) → p < st .cards → length (part (writeAt (st .cards) (st .block) i p) (st .block) work) ≡ st .block
   new-size p hp =
@@ -105,7 +96,7 @@ module _ (st : State) (work image : List ℕ) (i : ℕ) (r : Record) (at : Stand
   -- ---- in the other graphs: the last block to write becomes the sum
 
   last-below : unitsOf st < st .cards
-  last-below = omega (arith, at .some-card)
+  last-below = omega (arith, bounds)
 
   module _ (other : sumsToRead (r .graph) ≡ false) where
     sum-at-new : workAfter st i r xr work image ≡ put (writeAt (st .cards) (st .block) i (unitsOf st)) (tabulate (st .block) (sumByte st i r work)) work
@@ -138,7 +129,7 @@ module _ (st : State) (work image : List ℕ) (i : ℕ) (r : Record) (at : Stand
   unfolding imageAfter
   write-cell p b hp hb =
       cell-put-same (st .cards) (st .stripes) (st .block) image (at .image-right) (cardAt (st .cards) (r .stripe) p) (r .stripe)
-      (at .placing .card-below (r .stripe) p) (at .stripe-below) _ (new-size p hp) b hb
+      (card-in p) (at .stripe-below) _ (new-size p hp) b hb
       ∙ getD-part (writeAt (st .cards) (st .block) i p) (st .block) work b 0 hb
 
   pub write-cell-other : (p c t b : ℕ) → p < st .cards → t < st .stripes → b < st .block
@@ -147,7 +138,7 @@ module _ (st : State) (work image : List ℕ) (i : ℕ) (r : Record) (at : Stand
   unfolding imageAfter
   write-cell-other p c t b hp ht hb differ =
       cell-put-other (st .cards) (st .stripes) (st .block) image (at .image-right) (cardAt (st .cards) (r .stripe) p) (r .stripe)
-      (at .placing .card-below (r .stripe) p) (at .stripe-below) _ (new-size p hp) c t b ht hb differ
+      (card-in p) (at .stripe-below) _ (new-size p hp) c t b ht hb differ
 
   -- ---- any step: lengths stay, and so do other records' blocks and other stripes
 
@@ -172,7 +163,7 @@ module _ (st : State) (work image : List ℕ) (i : ℕ) (r : Record) (at : Stand
   step-image-length xr h = refl
   step-image-length (wr p) hp =
       cell-put-length (st .cards) (st .stripes) (st .block) image (at .image-right) (cardAt (st .cards) (r .stripe) p) (r .stripe)
-      (at .placing .card-below (r .stripe) p) (at .stripe-below) _ (new-size p hp)
+      (card-in p) (at .stripe-below) _ (new-size p hp)
   step-image-length nil h = refl
 
   pub step-got-other : (s : Step) → Within (st .cards) s → (j q b : ℕ) → ¬ (i ≡ j) → q < st .cards → b < st .block

@@ -10,7 +10,9 @@ use Rattle.terms.specs.Sets.{bit}
 use Rattle.geometry.specs.Store.{readAt}
 use Rattle.geometry.specs.declared.State.{State}
 use Rattle.record.specs.Life.{free, isWrite, unitsOf}
+use Rattle.record.specs.Survey.{surveyOf}
 use Rattle.record.specs.declared.Record.{Record}
+use Rattle.record.specs.declared.Survey.{Survey}
 use Rattle.array.specs.Lent.{rank}
 use Rattle.array.specs.Refusals.{collectRefusal}
 
@@ -25,21 +27,32 @@ handUnit st i mask work u result =
 unfoldable pub handOver : State → ℕ → ℕ → List ℕ → List ℕ → List ℕ
 handOver st i mask work result = changes (unitsOf st) (handUnit st i mask work) result
 
--- what collect answers, the step count, and the table and the result buffer that it leaves; the state and the work store stay
+-- what collect answers, the step count; where the table changes, and the record that stands there after it (past the table's end nothing does);
+-- and the result buffer. The state and the work store stay
+pub record CollectionBy : Type 0 where
+  pub reply : Reply
+  pub place : ℕ
+  pub stands : Record
+  pub result : List ℕ
+
+-- collect of record i, which is r, by a survey of the table
+unfoldable pub collectionBy : State → Survey → Record → List ℕ → ℕ → List ℕ → CollectionBy
+collectionBy st v r work i result =
+    let number = collectRefusal st v r work i result in
+    record {
+      reply = onAccept number (accepted (r .count) 0) (refused number);
+      place = onAccept number i (v .len);
+      stands = free;
+      result = onAccept number (cond (isWrite r) result (handOver st i (r .mask) work result)) result;
+    }
+
+-- what collect answers, and the table and the result buffer that it leaves
 pub record Collection : Type 0 where
   pub reply : Reply
   pub table : List Record
   pub result : List ℕ
 
--- collect of record i, which is r
-unfoldable pub collecting : State → List Record → List ℕ → ℕ → Record → List ℕ → ℕ → Collection
-collecting st table work i r result number =
-    record {
-      reply = onAccept number (accepted (r .count) 0) (refused number);
-      table = onAccept number (set table i free) table;
-      result = onAccept number (cond (isWrite r) result (handOver st i (r .mask) work result)) result;
-    }
-
 unfoldable pub collection : State → List Record → List ℕ → ℕ → List ℕ → Collection
 collection st table work i result =
-    collecting st table work i (getD table i free) result (collectRefusal st table work i result)
+    let a = collectionBy st (surveyOf st table) (getD table i free) work i result in
+    record { reply = a .reply; table = set table (a .place) (a .stands); result = a .result }

@@ -10,4 +10,3 @@ pub mod Answers
 pub mod Premises
 pub mod Sums
 pub mod Outcomes
-pub mod Marked

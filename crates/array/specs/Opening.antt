@@ -16,7 +16,21 @@ use Rattle.array.specs.Refusals.{opened, openRefusal}
 abbrev pub zeroState : State
 zeroState = record { cards = 0; stripes = 0; block = 0; records = 0; out = 0; lost = 0 }
 
--- what open answers, the new state, all zero if refused, and the table that it leaves; the image and the work store stay
+-- what open answers, and the new state, all zero if refused; the image and the work store stay
+pub record OpeningBy : Type 0 where
+  pub reply : Reply
+  pub state : State
+
+-- open over a table of so many records
+unfoldable pub openingBy : Geometry → ℕ → ℕ → List ℕ → List ℕ → OpeningBy
+openingBy g out len work image =
+    let number = openRefusal g out len work image in
+    record {
+      reply = onAccept number (accepted 0 0) (refusedOr13 number (disagreement (g .cards) (g .stripes) (g .block) image nothingHeld));
+      state = onAccept number (opened g out) zeroState;
+    }
+
+-- what open answers, the new state, and the table that it leaves
 pub record Opening : Type 0 where
   pub reply : Reply
   pub state : State
@@ -25,9 +39,9 @@ pub record Opening : Type 0 where
 -- open frees every record
 unfoldable pub opening : Geometry → ℕ → List Record → List ℕ → List ℕ → Opening
 opening g out table work image =
-    let number = openRefusal g out table work image in
+    let a = openingBy g out (length table) work image in
     record {
-      reply = onAccept number (accepted 0 0) (refusedOr13 number (disagreement (g .cards) (g .stripes) (g .block) image nothingHeld));
-      state = onAccept number (opened g out) zeroState;
-      table = onAccept number (replicate (length table) free) table;
+      reply = a .reply;
+      state = a .state;
+      table = onAccept (a .reply .number) (replicate (length table) free) table;
     }

@@ -1,34 +1,37 @@
--- Document 01, "Refusal numbers": for each call, in the paper's order, the test and the number. 0: the call is accepted.
+-- Document 01, "Refusal numbers": for each call, in the paper's order, the test and the number. 0: the call is accepted. A call on the table is
+-- asked of a survey of it and, where it is about one record, of that record; which these are is said where the call itself is.
 -- Assumes nothing.
 use Prim.Native.Nat.{ℕ}
 use mathlib.Core.Bool.{Bool, cond, not, _&&_, _||_}
-use mathlib.Core.List.{List, [], _∷_}
+use mathlib.Core.List.{List, [], _∷_, _++_}
 use lib.Dec.{ltb, leb, eqb}
-use lib.ListN.{length, getD}
-use Rattle.terms.specs.Reply.{row, firstRow}
-use Rattle.geometry.specs.Limits.{none, beyond, beyondState, isLost}
+use lib.ListN.{length}
+use Rattle.terms.specs.Reply.{Row, row, firstRow}
+use Rattle.geometry.specs.Limits.{none, beyond}
 use Rattle.geometry.specs.Store.{imageWrong, workWrong}
 use Rattle.geometry.specs.declared.Geometry.{Geometry}
 use Rattle.geometry.specs.declared.State.{State}
 use Rattle.graph.specs.Order.{ready}
 use Rattle.parity.specs.Parity.{rightParity}
 use Rattle.parity.specs.Scan.{nothingHeld}
-use Rattle.record.specs.Life.{free, isOpen, isFinished, isWrite, unitsOf, chosenAt}
-use Rattle.record.specs.Sound.{sound, held, legalMask, lowestFree}
+use Rattle.record.specs.Life.{isOpen, isFinished, isWrite, unitsOf, chosenAt}
+use Rattle.record.specs.Sound.{soundRecord, legalMask}
+use Rattle.record.specs.Survey.{heldIn}
 use Rattle.record.specs.declared.Record.{Record}
-use Rattle.array.specs.Lent.{tableWrong, unitBytes}
+use Rattle.record.specs.declared.Survey.{Survey}
+use Rattle.array.specs.Lent.{tableWrong, lentRows, unitBytes}
 
 -- the state that an accepted opening makes of a geometry
 unfoldable pub opened : Geometry → ℕ → State
 opened g out =
     record { cards = g .cards; stripes = g .stripes; block = g .block; records = g .records; out = out; lost = 0 }
 
--- open: 1, 2 and 13
-unfoldable pub openRefusal : Geometry → ℕ → List Record → List ℕ → List ℕ → ℕ
-openRefusal g out table work image =
+-- open, over a table of so many records: 1, 2 and 13
+unfoldable pub openRefusal : Geometry → ℕ → ℕ → List ℕ → List ℕ → ℕ
+openRefusal g out len work image =
     firstRow
     (row (beyond g out) 1
-    ∷ row (imageWrong (opened g out) image || tableWrong (opened g out) table || workWrong (opened g out) work) 2
+    ∷ row (imageWrong (opened g out) image || tableWrong (opened g out) len || workWrong (opened g out) work) 2
     ∷ row (eqb out none && not (rightParity (g .cards) (g .stripes) (g .block) image nothingHeld)) 13
     ∷ [])
 
@@ -36,63 +39,54 @@ openRefusal g out table work image =
 unfoldable pub payloadWrong : State → Bool → ℕ → List ℕ → Bool
 payloadWrong st write mask payload = not (eqb (length payload) (cond write (unitBytes st mask) 0))
 
--- admit: 1 to 9
-unfoldable pub admitRefusal : State → List Record → List ℕ → List ℕ → Bool → ℕ → ℕ → List ℕ → ℕ
-admitRefusal st table work image write s mask payload =
-    firstRow
-    (row (beyondState st) 1
-    ∷ row (imageWrong st image || tableWrong st table || workWrong st work) 2
-    ∷ row (not (sound st table)) 3
-    ∷ row (isLost st) 4
-    ∷ row (leb (st .stripes) s) 5
+-- admit: 1 to 9. No record is free where the lowest free one is none of the K
+unfoldable pub admitRows : State → Survey → Bool → ℕ → ℕ → List ℕ → List Row
+admitRows st v write s mask payload =
+    row (leb (st .stripes) s) 5
     ∷ row (not (legalMask (unitsOf st) mask)) 6
     ∷ row (payloadWrong st write mask payload) 7
-    ∷ row (held table s) 8
-    ∷ row (eqb (lowestFree table) (length table)) 9
-    ∷ [])
+    ∷ row (heldIn v s) 8
+    ∷ row (leb (st .records) (v .free)) 9
+    ∷ []
+
+unfoldable pub admitRefusal : State → Survey → List ℕ → List ℕ → Bool → ℕ → ℕ → List ℕ → ℕ
+admitRefusal st v work image write s mask payload =
+    firstRow
+    (lentRows st (imageWrong st image || tableWrong st (v .len) || workWrong st work) (v .sound)
+    ++ admitRows st v write s mask payload)
 
 -- step k of record r is ready
 unfoldable pub stepReady : State → Record → ℕ → Bool
 stepReady st r k = ready (unitsOf st) (r .graph) (r .mask) (chosenAt st r) (r .done) k
 
--- step: 1 to 5, 10, 11
-unfoldable pub stepRefusal : State → List Record → List ℕ → List ℕ → ℕ → ℕ → ℕ
-stepRefusal st table work image i k =
+-- step k of record i, which is r: 1 to 5, 10, 11. A record of a sound table is sound, so that its own test in 3 adds nothing there
+unfoldable pub stepRows : State → Record → ℕ → ℕ → List Row
+stepRows st r i k = row (leb (st .records) i) 5 ∷ row (not (isOpen r)) 10 ∷ row (not (stepReady st r k)) 11 ∷ []
+
+unfoldable pub stepRefusal : State → Survey → Record → List ℕ → List ℕ → ℕ → ℕ → ℕ
+stepRefusal st v r work image i k =
     firstRow
-    (row (beyondState st) 1
-    ∷ row (imageWrong st image || tableWrong st table || workWrong st work) 2
-    ∷ row (not (sound st table)) 3
-    ∷ row (isLost st) 4
-    ∷ row (leb (st .records) i) 5
-    ∷ row (not (isOpen (getD table i free))) 10
-    ∷ row (not (stepReady st (getD table i free) k)) 11
-    ∷ [])
+    (lentRows st (imageWrong st image || tableWrong st (v .len) || workWrong st work) (v .sound && soundRecord st r)
+    ++ stepRows st r i k)
 
 -- collect's result buffer is below m·B for a read
 unfoldable pub resultShort : State → Record → List ℕ → Bool
 resultShort st r result = not (isWrite r) && ltb (length result) (unitBytes st (r .mask))
 
--- collect: 1 to 5, 10, 7; it isn't lent the image
-unfoldable pub collectRefusal : State → List Record → List ℕ → ℕ → List ℕ → ℕ
-collectRefusal st table work i result =
-    firstRow
-    (row (beyondState st) 1
-    ∷ row (tableWrong st table || workWrong st work) 2
-    ∷ row (not (sound st table)) 3
-    ∷ row (isLost st) 4
-    ∷ row (leb (st .records) i) 5
-    ∷ row (not (isFinished (getD table i free))) 10
-    ∷ row (resultShort st (getD table i free) result) 7
-    ∷ [])
+-- collect of record i, which is r: 1 to 5, 10, 7; it isn't lent the image
+unfoldable pub collectRows : State → Record → ℕ → List ℕ → List Row
+collectRows st r i result = row (leb (st .records) i) 5 ∷ row (not (isFinished r)) 10 ∷ row (resultShort st r result) 7 ∷ []
+
+unfoldable pub collectRefusal : State → Survey → Record → List ℕ → ℕ → List ℕ → ℕ
+collectRefusal st v r work i result =
+    firstRow (lentRows st (tableWrong st (v .len) || workWrong st work) (v .sound && soundRecord st r) ++ collectRows st r i result)
 
 -- scan: 1 to 4, 12, 13; it isn't lent the work store, and passes over the stripes that an open request holds
-unfoldable pub scanRefusal : State → List Record → List ℕ → ℕ
-scanRefusal st table image =
-    firstRow
-    (row (beyondState st) 1
-    ∷ row (imageWrong st image || tableWrong st table) 2
-    ∷ row (not (sound st table)) 3
-    ∷ row (isLost st) 4
-    ∷ row (not (eqb (st .out) none)) 12
-    ∷ row (not (rightParity (st .cards) (st .stripes) (st .block) image (held table))) 13
-    ∷ [])
+unfoldable pub scanRows : State → Survey → List ℕ → List Row
+scanRows st v image =
+    row (not (eqb (st .out) none)) 12
+    ∷ row (not (rightParity (st .cards) (st .stripes) (st .block) image (heldIn v))) 13
+    ∷ []
+
+unfoldable pub scanRefusal : State → Survey → List ℕ → ℕ
+scanRefusal st v image = firstRow (lentRows st (imageWrong st image || tableWrong st (v .len)) (v .sound) ++ scanRows st v image)

@@ -15,7 +15,9 @@ use Rattle.geometry.specs.declared.State.{State}
 use Rattle.graph.specs.Steps.{Step, rd, xr, wr, nil, stepOf}
 use Rattle.graph.specs.Sums.{takesRead, takesNew, sumsToRead}
 use Rattle.record.specs.Life.{free, unitsOf, chosenAt, missingIn, stepped, afresh}
+use Rattle.record.specs.Survey.{surveyOf}
 use Rattle.record.specs.declared.Record.{Record}
+use Rattle.record.specs.declared.Survey.{Survey}
 use Rattle.array.specs.Refusals.{stepRefusal}
 
 -- where the block of position p of the record's stripe starts in the image
@@ -59,29 +61,44 @@ imageAfter st i r xr work image = image
 imageAfter st i r (wr p) work image = put (cellOf st r p) (part (writeAt (st .cards) (st .block) i p) (st .block) work) image
 imageAfter st i r nil work image = image
 
--- what step answers: 0 where it is done, the new graph's number where one is chosen afresh; and the table, work store and image that it
--- leaves. The state stays
+-- what step answers: 0 where it is done, the new graph's number where one is chosen afresh; where the table changes, and the record that stands
+-- there after it (past the table's end nothing does); the work store and the image. The state stays
+pub record SteppingBy : Type 0 where
+  pub reply : Reply
+  pub place : ℕ
+  pub stands : Record
+  pub work : List ℕ
+  pub image : List ℕ
+
+-- an accepted step k of record i, which is r: done where its card works, chosen afresh where it is out
+unfoldable pub accepting : State → List ℕ → List ℕ → ℕ → Record → ℕ → SteppingBy
+accepting st work image i r k =
+    cond (meetsOut (missingIn st (r .stripe)) (stepOf (unitsOf st) k))
+    (record { reply = accepted (afresh st r .graph) 0; place = i; stands = afresh st r; work = work; image = image })
+    (record {
+      reply = accepted 0 0;
+      place = i;
+      stands = stepped st r k;
+      work = workAfter st i r (stepOf (unitsOf st) k) work image;
+      image = imageAfter st i r (stepOf (unitsOf st) k) work image;
+    })
+
+-- step k of record i, which is r, by a survey of the table
+unfoldable pub steppingBy : State → Survey → Record → List ℕ → List ℕ → ℕ → ℕ → SteppingBy
+steppingBy st v r work image i k =
+    let number = stepRefusal st v r work image i k in
+    onAccept number
+    (accepting st work image i r k)
+    (record { reply = refused number; place = v .len; stands = free; work = work; image = image })
+
+-- what step answers, and the table, the work store and the image that it leaves
 pub record Stepping : Type 0 where
   pub reply : Reply
   pub table : List Record
   pub work : List ℕ
   pub image : List ℕ
 
--- an accepted step k of record i, which is r: done where its card works, chosen afresh where it is out
-unfoldable pub accepting : State → List Record → List ℕ → List ℕ → ℕ → Record → ℕ → Stepping
-accepting st table work image i r k =
-    cond (meetsOut (missingIn st (r .stripe)) (stepOf (unitsOf st) k))
-    (record { reply = accepted (afresh st r .graph) 0; table = set table i (afresh st r); work = work; image = image })
-    (record {
-      reply = accepted 0 0;
-      table = set table i (stepped st r k);
-      work = workAfter st i r (stepOf (unitsOf st) k) work image;
-      image = imageAfter st i r (stepOf (unitsOf st) k) work image;
-    })
-
 unfoldable pub stepping : State → List Record → List ℕ → List ℕ → ℕ → ℕ → Stepping
 stepping st table work image i k =
-    let number = stepRefusal st table work image i k in
-    onAccept number
-    (accepting st table work image i (getD table i free) k)
-    (record { reply = refused number; table = table; work = work; image = image })
+    let a = steppingBy st (surveyOf st table) (getD table i free) work image i k in
+    record { reply = a .reply; table = set table (a .place) (a .stands); work = a .work; image = a .image }

@@ -1,23 +1,25 @@
 // Admit: a request takes the lowest free record.
 // Assumes nothing.
-ghost use mathlib.Core.Bool.{true, cond, not};
+ghost use mathlib.Core.Bool.{cond, not};
 ghost use mathlib.Core.Path.{_≡_};
 ghost use Prim.Native.Nat.{_≤_};
 ghost use lib.Dec.{eqb};
-ghost use Rattle.array.specs.Admission.{admission, keepUnits};
+ghost use Rattle.array.specs.Admission.{admissionBy, keepUnits};
 ghost use Rattle.array.specs.Lent.{unitBytes};
-ghost use Rattle.array.specs.Marked.{AdmitRefusalMarked, AdmissionMarked};
 ghost use Rattle.array.specs.Outcomes.{AdmissionIs};
 ghost use Rattle.array.specs.Premises.{Keeping};
+ghost use Rattle.array.specs.Refusals.{admitRefusal};
 ghost use Rattle.record.specs.Life.{recordsOf};
-ghost use Rattle.record.specs.Marks.{freeMarks};
+ghost use Rattle.record.specs.Survey.{surveyOf};
 use crate::answers::Admission;
 use crate::answers::Admitted;
+use crate::places::write_at;
 use crate::refusals::lent_refusal;
+use crate::refusals::lent_wrong;
 use crate::refusals::unit_bytes;
 use block::carry;
 use geometry::State;
-use record::Marks;
+use record::Survey;
 use record::Table;
 use record::admitted;
 use record::free;
@@ -34,7 +36,7 @@ fn keep_units(state: State, record: u64, mask: u64, payload: &[u8], work: &mut [
     let mut u: u64 = 0;
     while u < units {
         if (mask >> u) % 2 == 1 {
-            let at = state.write_at(record, u);
+            let at = write_at(state, record, u);
             carry(work, at, payload, from, size);
             from += size;
         }
@@ -56,7 +58,7 @@ fn payload_wrong(state: State, write: bool, mask: u64, payload: usize) -> bool
 // The number by which admit is refused; 0: none.
 fn admit_refusal(
     state: State,
-    marks: Marks,
+    survey: Survey,
     work: &[u8],
     image: &[u8],
     write: bool,
@@ -64,10 +66,13 @@ fn admit_refusal(
     mask: u64,
     payload: &[u8],
 ) -> u64
-    ensures refuses { λ r. ⌜ AdmitRefusalMarked state marks (now (work .entry)) (now (image .entry)) write stripe mask (now (payload .entry)) r ⌝ }
-    ensures passes { λ r. ⌜ (r ≡ 0 → write ≡ true → Keeping state (freeMarks marks) mask (now (payload .entry)) (now (work .entry))) ⌝ }
+    ensures { λ r. ⌜ r ≡ admitRefusal state survey (now (work .entry)) (now (image .entry)) write stripe mask (now (payload .entry)) ⌝ }
 {
-    let first = lent_refusal(state, marks, work.len(), image.len());
+    if state.beyond() {
+        return 1;
+    }
+    let wrong = lent_wrong(state, survey.len, work, image);
+    let first = lent_refusal(state, wrong, survey.sound);
     if first != 0 {
         return first;
     }
@@ -80,19 +85,19 @@ fn admit_refusal(
     if payload_wrong(state, write, mask, payload.len()) {
         return 7;
     }
-    if marks.is_held(stripe) {
+    if survey.is_held(stripe) {
         return 8;
     }
-    if marks.lowest_free() == marks.len {
+    if state.records <= survey.free {
         return 9;
     }
     0
 }
 
-// Admits a request to a table by its marks: the answer, and the record that is taken, with its place.
-pub fn admit_marked(
+// Admits a request by a survey of the table: the answer, and the record that is taken, with its place.
+pub fn admit_by(
     state: State,
-    marks: Marks,
+    survey: Survey,
     work: &mut [u8],
     image: &[u8],
     write: bool,
@@ -100,17 +105,17 @@ pub fn admit_marked(
     mask: u64,
     payload: &[u8],
 ) -> Admission
-    ensures { λ r. ⌜ AdmissionMarked state marks (now (work .entry)) (now (image .entry)) write stripe mask (now (payload .entry)) r (now (work .exit)) ⌝ }
+    ensures { λ o. ⌜ AdmissionIs (admissionBy state survey (now (work .entry)) (now (image .entry)) write stripe mask (now (payload .entry))) o (now (work .exit)) ⌝ }
 {
-    let number = admit_refusal(state, marks, work, image, write, stripe, mask, payload);
+    let number = admit_refusal(state, survey, work, image, write, stripe, mask, payload);
     if number != 0 {
         return Admission {
             answer: Admitted::Refused(number),
-            place: marks.len,
+            place: survey.len,
             record: free(),
         };
     }
-    let place = marks.lowest_free();
+    let place = survey.free;
     if write {
         keep_units(state, place, mask, payload, work);
     }
@@ -132,8 +137,8 @@ pub fn admit(
     mask: u64,
     payload: &[u8],
 ) -> Admission
-    ensures { λ r. ⌜ AdmissionIs (admission state (recordsOf table) (now (work .entry)) (now (image .entry)) write stripe mask (now (payload .entry))) (recordsOf table) r (now (work .exit)) ⌝ }
+    ensures { λ o. ⌜ AdmissionIs (admissionBy state (surveyOf state (recordsOf table)) (now (work .entry)) (now (image .entry)) write stripe mask (now (payload .entry))) o (now (work .exit)) ⌝ }
 {
-    let marks = table.marks(state);
-    admit_marked(state, marks, work, image, write, stripe, mask, payload)
+    let survey = table.survey(state);
+    admit_by(state, survey, work, image, write, stripe, mask, payload)
 }

@@ -1,24 +1,28 @@
 // Collect: what a finished request read is handed over, and its record freed.
 // Assumes nothing.
-ghost use mathlib.Core.Bool.{false, not, _&&_};
+ghost use mathlib.Core.Bool.{not, _&&_};
 ghost use mathlib.Core.Path.{_≡_};
 ghost use Prim.Native.Nat.{_≤_};
 ghost use lib.Dec.{ltb};
-ghost use Rattle.array.specs.Collection.{collection, handOver};
+ghost use lib.ListN.{getD};
+ghost use Rattle.array.specs.Collection.{collectionBy, handOver};
 ghost use Rattle.array.specs.Lent.{unitBytes};
-ghost use Rattle.array.specs.Marked.{CollectRefusalMarked, CollectionMarked};
 ghost use Rattle.array.specs.Outcomes.{CollectionIs};
 ghost use Rattle.array.specs.Premises.{Keeping};
-ghost use Rattle.record.specs.Life.{isWrite, recordsOf};
+ghost use Rattle.array.specs.Refusals.{collectRefusal};
+ghost use Rattle.record.specs.Life.{free, isWrite, recordsOf};
+ghost use Rattle.record.specs.Survey.{surveyOf};
 use crate::answers::Collected;
 use crate::answers::Collection;
-use crate::refusals::astray;
+use crate::places::read_at;
 use crate::refusals::lent_refusal;
+use crate::refusals::sound_with;
+use crate::refusals::stores_wrong;
 use crate::refusals::unit_bytes;
 use block::carry;
 use geometry::State;
-use record::Marks;
 use record::Record;
+use record::Survey;
 use record::Table;
 use record::free;
 
@@ -33,7 +37,7 @@ fn hand_over(state: State, record: u64, mask: u64, work: &[u8], result: &mut [u8
     let mut u: u64 = 0;
     while u < units {
         if (mask >> u) % 2 == 1 {
-            let at = state.read_at(record, u);
+            let at = read_at(state, record, u);
             carry(result, place, work, at, size);
             place += size;
         }
@@ -53,11 +57,22 @@ fn result_short(state: State, r: Record, result: usize) -> bool
 }
 
 // The number by which collect is refused; 0: none. It isn't lent the image.
-fn collect_refusal(state: State, marks: Marks, r: Record, work: &[u8], i: u64, result: &[u8]) -> u64
-    ensures refuses { λ n. ⌜ CollectRefusalMarked state marks r (now (work .entry)) i (now (result .entry)) n ⌝ }
-    ensures passes { λ n. ⌜ (n ≡ 0 → isWrite r ≡ false → Keeping state i (r .mask) (now (result .entry)) (now (work .entry))) ⌝ }
+fn collect_refusal(
+    state: State,
+    survey: Survey,
+    r: Record,
+    work: &[u8],
+    i: u64,
+    result: &[u8],
+) -> u64
+    ensures { λ n. ⌜ n ≡ collectRefusal state survey r (now (work .entry)) i (now (result .entry)) ⌝ }
 {
-    let first = lent_refusal(state, marks, work.len(), state.image_size());
+    if state.beyond() {
+        return 1;
+    }
+    let wrong = stores_wrong(state, survey.len, work);
+    let sound = sound_with(state, survey.sound, r);
+    let first = lent_refusal(state, wrong, sound);
     if first != 0 {
         return first;
     }
@@ -67,31 +82,28 @@ fn collect_refusal(state: State, marks: Marks, r: Record, work: &[u8], i: u64, r
     if r.phase != 2 {
         return 10;
     }
-    if astray(state, r) {
-        return 3;
-    }
     if result_short(state, r, result.len()) {
         return 7;
     }
     0
 }
 
-// Collects finished record i, which is r, of a table by its marks: the answer, and the freed record, with its place.
-pub fn collect_marked(
+// Collects finished record i, which is r, by a survey of the table: the answer, and the freed record, with its place.
+pub fn collect_by(
     state: State,
-    marks: Marks,
+    survey: Survey,
     r: Record,
     work: &[u8],
     i: u64,
     result: &mut [u8],
 ) -> Collection
-    ensures { λ o. ⌜ CollectionMarked state marks r (now (work .entry)) i (now (result .entry)) o (now (result .exit)) ⌝ }
+    ensures { λ o. ⌜ CollectionIs (collectionBy state survey r (now (work .entry)) i (now (result .entry))) o (now (result .exit)) ⌝ }
 {
-    let number = collect_refusal(state, marks, r, work, i, result);
+    let number = collect_refusal(state, survey, r, work, i, result);
     if number != 0 {
         return Collection {
             answer: Collected::Refused(number),
-            place: marks.len,
+            place: survey.len,
             record: free(),
         };
     }
@@ -107,9 +119,9 @@ pub fn collect_marked(
 
 // Collects finished record i: the answer, and the freed record, with its place.
 pub fn collect(state: State, table: Table, work: &[u8], i: u64, result: &mut [u8]) -> Collection
-    ensures { λ r. ⌜ CollectionIs (collection state (recordsOf table) (now (work .entry)) i (now (result .entry))) (recordsOf table) i r (now (result .exit)) ⌝ }
+    ensures { λ o. ⌜ CollectionIs (collectionBy state (surveyOf state (recordsOf table)) (getD (recordsOf table) i free) (now (work .entry)) i (now (result .entry))) o (now (result .exit)) ⌝ }
 {
-    let marks = table.marks(state);
+    let survey = table.survey(state);
     let r = table.at(i);
-    collect_marked(state, marks, r, work, i, result)
+    collect_by(state, survey, r, work, i, result)
 }

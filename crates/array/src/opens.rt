@@ -1,13 +1,12 @@
 // Open: a geometry and a card that is out, or none, become a state; with none out the parity is right throughout.
 // Assumes nothing.
 ghost use mathlib.Core.Path.{_≡_};
-ghost use Rattle.array.specs.Marked.{OpeningSized};
-ghost use Rattle.array.specs.Opening.{opening, zeroState};
+ghost use Rattle.array.specs.Opening.{openingBy, zeroState};
 ghost use Rattle.array.specs.Outcomes.{OpeningIs};
 ghost use Rattle.array.specs.Refusals.{opened};
-ghost use Rattle.record.specs.Life.{recordsOf};
 use crate::answers::Opened;
 use crate::answers::Opening;
+use crate::refusals::lent_wrong;
 use geometry::Geometry;
 use geometry::NO_STRIPE;
 use geometry::NONE;
@@ -55,20 +54,14 @@ fn refused(number: u64) -> Opening
 }
 
 // Opens an array over a table of so many records: the answer and the new state, all zero if refused.
-pub fn open_sized(geometry: Geometry, out: u64, len: u64, work: &[u8], image: &[u8]) -> Opening
-    ensures { λ r. ⌜ OpeningSized geometry out len (now (work .entry)) (now (image .entry)) r ⌝ }
+pub fn open_by(geometry: Geometry, out: u64, len: u64, work: &[u8], image: &[u8]) -> Opening
+    ensures { λ o. ⌜ OpeningIs (openingBy «geometry» out len (now (work .entry)) (now (image .entry))) o ⌝ }
 {
     let state = opened(geometry, out);
     if state.beyond() {
         return refused(1);
     }
-    if image.len() != state.image_size() {
-        return refused(2);
-    }
-    if len != state.records {
-        return refused(2);
-    }
-    if work.len() != state.work_size() {
+    if lent_wrong(state, len, work, image) {
         return refused(2);
     }
     if out != NONE {
@@ -92,7 +85,7 @@ pub fn open_sized(geometry: Geometry, out: u64, len: u64, work: &[u8], image: &[
 
 // Opens an array: the answer and the new state, all zero if refused. Who lends the table frees every record where it is accepted.
 pub fn open(geometry: Geometry, out: u64, table: Table, work: &[u8], image: &[u8]) -> Opening
-    ensures { λ r. ⌜ OpeningIs (opening geometry out (recordsOf table) (now (work .entry)) (now (image .entry))) r ⌝ }
+    ensures { λ o. ⌜ OpeningIs (openingBy «geometry» out (table .len) (now (work .entry)) (now (image .entry))) o ⌝ }
 {
-    open_sized(geometry, out, table.len, work, image)
+    open_by(geometry, out, table.len, work, image)
 }

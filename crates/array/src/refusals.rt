@@ -1,59 +1,74 @@
-// The tests that calls on the table begin with, the test of a record that may be any, and the bytes of a mask's units.
+// The tests that calls on the table begin with, and the bytes of a mask's units.
 // Assumes nothing.
-ghost use mathlib.Core.Bool.{true};
+ghost use mathlib.Core.Bool.{true, false, _&&_, _||_};
 ghost use mathlib.Core.Path.{_≡_};
 ghost use Prim.Native.Nat.{_≤_};
-ghost use Rattle.array.specs.Lent.{unitBytes};
-ghost use Rattle.array.specs.Marked.{LentMarked};
-ghost use Rattle.array.specs.Premises.{Lengths, astray};
-ghost use Rattle.geometry.specs.Store.{legalState};
+ghost use Rattle.terms.specs.Reply.{firstRow};
+ghost use Rattle.array.specs.Lent.{tableWrong, lentRows, unitBytes};
+ghost use Rattle.geometry.specs.Limits.{beyondState};
+ghost use Rattle.geometry.specs.Store.{legalState, imageWrong, workWrong};
+ghost use Rattle.record.specs.Sound.{soundRecord};
+use crate::places::image_size;
+use crate::places::work_size;
 use geometry::State;
-use graph::sums_to_read;
-use record::Marks;
 use record::Record;
-use record::legal_mask;
 
-// Refusals 1 to 4 of a call that is lent a table with these marks, a work store and an image of these lengths; 0: none.
-pub(crate) fn lent_refusal(state: State, marks: Marks, work: usize, image: usize) -> u64
-    ensures refuses { λ r. ⌜ LentMarked state marks work image r ⌝ }
-    ensures passes { λ r. ⌜ (r ≡ 0 → Lengths state (marks .len) work image) ⌝ }
+// Whether the image is not of its length.
+pub(crate) fn image_wrong(state: State, image: &[u8]) -> bool
+    requires { ⌜ legalState state ≡ true ⌝ }
+    ensures { λ r. ⌜ r ≡ imageWrong state (now (image .entry)) ⌝ }
 {
-    if state.beyond() {
-        return 1;
+    image.len() != image_size(state)
+}
+
+// Whether a table of so many records, or the work store, is not of its length.
+pub(crate) fn stores_wrong(state: State, len: u64, work: &[u8]) -> bool
+    requires { ⌜ legalState state ≡ true ⌝ }
+    ensures { λ r. ⌜ r ≡ (tableWrong state len || workWrong state (now (work .entry))) ⌝ }
+{
+    if len != state.records {
+        return true;
     }
-    if image != state.image_size() {
+    work.len() != work_size(state)
+}
+
+// Whether the image, a table of so many records or the work store is not of its length.
+pub(crate) fn lent_wrong(state: State, len: u64, work: &[u8], image: &[u8]) -> bool
+    requires { ⌜ legalState state ≡ true ⌝ }
+    ensures { λ r. ⌜ r ≡ (imageWrong state (now (image .entry)) || tableWrong state len || workWrong state (now (work .entry))) ⌝ }
+{
+    if image_wrong(state, image) {
+        return true;
+    }
+    stores_wrong(state, len, work)
+}
+
+// Whether the table is sound, by a survey that says so or not, and with it the record that the call is about.
+pub(crate) fn sound_with(state: State, sound: bool, r: Record) -> bool
+    requires { ⌜ legalState state ≡ true ⌝ }
+    ensures { λ s. ⌜ s ≡ (sound && soundRecord state r) ⌝ }
+{
+    if !sound {
+        return false;
+    }
+    r.is_sound(state)
+}
+
+// Refusals 2 to 4 of a call on the table, whose state is within its limits; 0: none.
+pub(crate) fn lent_refusal(state: State, wrong: bool, sound: bool) -> u64
+    requires { ⌜ beyondState state ≡ false ⌝ }
+    ensures { λ r. ⌜ r ≡ firstRow (lentRows state wrong sound) ⌝ }
+{
+    if wrong {
         return 2;
     }
-    if marks.len != state.records {
-        return 2;
-    }
-    if work != state.work_size() {
-        return 2;
-    }
-    if !marks.are_sound() {
+    if !sound {
         return 3;
     }
     if state.is_lost() {
         return 4;
     }
     0
-}
-
-// Whether no sound table has the record, open or finished, so that a step or a collection of it could go beyond the stores.
-pub(crate) fn astray(state: State, r: Record) -> bool
-    requires { ⌜ legalState state ≡ true ⌝ }
-    ensures { λ a. ⌜ a ≡ astray state r ⌝ }
-{
-    if state.stripes <= r.stripe {
-        return true;
-    }
-    if !legal_mask(state.cards - 1, r.mask) {
-        return true;
-    }
-    if !sums_to_read(r.graph) {
-        return false;
-    }
-    state.cards <= r.chosen_at(state)
 }
 
 // m·B, with m the number of ones in the mask.

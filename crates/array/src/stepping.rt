@@ -1,39 +1,45 @@
 // Step: a ready step is done, or, where its card is out, the graph is chosen afresh.
 // Assumes nothing.
 ghost use mathlib.Core.Path.{_≡_};
-ghost use Rattle.array.specs.Marked.{StepRefusalMarked, SteppingMarked};
+ghost use lib.ListN.{getD};
 ghost use Rattle.array.specs.Outcomes.{SteppingIs};
-ghost use Rattle.array.specs.Premises.{Performing};
-ghost use Rattle.array.specs.Stepping.{stepping, meetsOut};
-ghost use Rattle.graph.specs.Steps.{stepOf};
-ghost use Rattle.record.specs.Life.{recordsOf, unitsOf};
+ghost use Rattle.array.specs.Refusals.{stepRefusal};
+ghost use Rattle.array.specs.Stepping.{steppingBy, meetsOut};
+ghost use Rattle.graph.specs.Asked.{actionStep};
+ghost use Rattle.record.specs.Life.{free, recordsOf};
+ghost use Rattle.record.specs.Survey.{surveyOf};
 use crate::answers::Stepped;
 use crate::answers::Stepping;
 use crate::performs::perform;
-use crate::refusals::astray;
 use crate::refusals::lent_refusal;
+use crate::refusals::lent_wrong;
+use crate::refusals::sound_with;
 use geometry::State;
 use graph::Action;
 use graph::step_of;
-use record::Marks;
 use record::Record;
+use record::Survey;
 use record::Table;
 use record::free;
 
 // The number by which step is refused; 0: none.
 fn step_refusal(
     state: State,
-    marks: Marks,
+    survey: Survey,
     r: Record,
     work: &[u8],
     image: &[u8],
     i: u64,
     k: u64,
 ) -> u64
-    ensures refuses { λ n. ⌜ StepRefusalMarked state marks r (now (work .entry)) (now (image .entry)) i k n ⌝ }
-    ensures passes { λ n. ⌜ (n ≡ 0 → Performing state i r (now (work .entry)) (now (image .entry))) ⌝ }
+    ensures { λ n. ⌜ n ≡ stepRefusal state survey r (now (work .entry)) (now (image .entry)) i k ⌝ }
 {
-    let first = lent_refusal(state, marks, work.len(), image.len());
+    if state.beyond() {
+        return 1;
+    }
+    let wrong = lent_wrong(state, survey.len, work, image);
+    let sound = sound_with(state, survey.sound, r);
+    let first = lent_refusal(state, wrong, sound);
     if first != 0 {
         return first;
     }
@@ -43,20 +49,17 @@ fn step_refusal(
     if r.phase != 1 {
         return 10;
     }
-    if astray(state, r) {
-        return 3;
-    }
     if !r.is_ready(state, k) {
         return 11;
     }
     0
 }
 
-// Whether step k is on position x.
-fn meets_out(n: u64, x: u64, k: u64) -> bool
-    ensures { λ r. ⌜ r ≡ meetsOut x (stepOf n k) ⌝ }
+// Whether the step is on position x.
+fn meets_out(action: Action, x: u64) -> bool
+    ensures { λ r. ⌜ r ≡ meetsOut x (actionStep action) ⌝ }
 {
-    match step_of(n, k) {
+    match action {
         Action::Read(p) => p == x,
         Action::Sum => false,
         Action::Write(p) => p == x,
@@ -64,27 +67,28 @@ fn meets_out(n: u64, x: u64, k: u64) -> bool
     }
 }
 
-// Does step k of record i, which is r, in a table by its marks: the answer, and the record after it, with its place.
-pub fn step_marked(
+// Does step k of record i, which is r, by a survey of the table: the answer, and the record after it, with its place.
+pub fn step_by(
     state: State,
-    marks: Marks,
+    survey: Survey,
     r: Record,
     work: &mut [u8],
     image: &mut [u8],
     i: u64,
     k: u64,
 ) -> Stepping
-    ensures { λ o. ⌜ SteppingMarked state marks r (now (work .entry)) (now (image .entry)) i k o (now (work .exit)) (now (image .exit)) ⌝ }
+    ensures { λ o. ⌜ SteppingIs (steppingBy state survey r (now (work .entry)) (now (image .entry)) i k) o (now (work .exit)) (now (image .exit)) ⌝ }
 {
-    let number = step_refusal(state, marks, r, work, image, i, k);
+    let number = step_refusal(state, survey, r, work, image, i, k);
     if number != 0 {
         return Stepping {
             answer: Stepped::Refused(number),
-            place: marks.len,
+            place: survey.len,
             record: free(),
         };
     }
-    if meets_out(state.cards - 1, state.missing_in(r.stripe), k) {
+    let action = step_of(state.cards - 1, k);
+    if meets_out(action, state.missing_in(r.stripe)) {
         let chosen = r.afresh(state);
         let graph = chosen.graph;
         return Stepping {
@@ -93,7 +97,7 @@ pub fn step_marked(
             record: chosen,
         };
     }
-    perform(state, i, r, k, work, image);
+    perform(state, i, r, action, work, image);
     Stepping {
         answer: Stepped::Done,
         place: i,
@@ -110,9 +114,9 @@ pub fn step(
     i: u64,
     k: u64,
 ) -> Stepping
-    ensures { λ r. ⌜ SteppingIs (stepping state (recordsOf table) (now (work .entry)) (now (image .entry)) i k) (recordsOf table) i r (now (work .exit)) (now (image .exit)) ⌝ }
+    ensures { λ o. ⌜ SteppingIs (steppingBy state (surveyOf state (recordsOf table)) (getD (recordsOf table) i free) (now (work .entry)) (now (image .entry)) i k) o (now (work .exit)) (now (image .exit)) ⌝ }
 {
-    let marks = table.marks(state);
+    let survey = table.survey(state);
     let r = table.at(i);
-    step_marked(state, marks, r, work, image, i, k)
+    step_by(state, survey, r, work, image, i, k)
 }

@@ -7,6 +7,8 @@ ghost use lib.ListN.{length};
 ghost use Rattle.array.specs.Sums.{takenIf, blockSum};
 ghost use Rattle.block.specs.Blocks.{summed, carried};
 ghost use Rattle.geometry.specs.Store.{legalState, workSize};
+use crate::places::read_at;
+use crate::places::write_at;
 use block::add;
 use block::carry;
 use geometry::State;
@@ -41,8 +43,8 @@ pub(crate) fn sum_blocks(
     ensures { λ _. ⌜ now (work .exit) ≡ carried (now (work .entry)) at (blockSum state «record» reads news (now (work .entry))) 0 (state .block) ⌝ }
 {
     let size = state.block as usize;
-    let read = state.read_at(record, 0);
-    let new = state.write_at(record, 0);
+    let read = read_at(state, record, 0);
+    let new = write_at(state, record, 0);
     let mut sum = [0u8; 512];
     add_taken(&mut sum, reads, read, state.cards, size, work);
     add_taken(&mut sum, news, new, state.cards, size, work);

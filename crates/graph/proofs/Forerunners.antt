@@ -1,20 +1,19 @@
 -- What must come before each step, as a set.
 -- Assumes nothing.
 use Prim.Native.Nat.{ℕ, _+_, _*_, _^_, _≤_, _<_}
-use mathlib.Core.Bool.{Bool, false}
+use mathlib.Core.Bool.{Bool, true, false, cond, not, _&&_}
 use mathlib.Core.Logic.{⊎-elim}
-use mathlib.Core.Path.{_≡_, refl, sym, _∙_}
+use mathlib.Core.Path.{_≡_, refl, sym, ap, _∙_}
 use native.Mathlib.Omega.{arith}
-use borrow.Author.Tests.{ltb-true, ltb-false, eq-eqb, ne-eqb}
-use lib.Bits.{bitAnd}
+use borrow.Author.Tests.{ltb-true, ltb-false, lt-ltb, eqb-true, eqb-false, eq-eqb, ne-eqb}
 use lib.Dec.{ltb, eqb}
 use Rattle.terms.specs.Sets.{bit, setOf}
 use Rattle.terms.proofs.Bits.{bit-setOf, bit-beyond, setOf-bound}
 use Rattle.terms.proofs.Rows.{truth}
-use Rattle.graph.specs.Asked.{stepSet, beforeSet}
-use Rattle.graph.specs.Order.{anyRead, readOf, isSum, before, complete}
+use Rattle.graph.specs.Asked.{fewUnits, stepSet, beforeSet, partOf, neededBy, readyBy, judged}
+use Rattle.graph.specs.Order.{anyRead, readOf, isSum, before, cleared, ready, complete, closed}
 use Rattle.graph.specs.Steps.{Step, wr, stepOf, stepNumbers, byGraph, reads, member}
-use Rattle.graph.proofs.Graphs.{Graph, plain, degraded, small, reconstruct, large, failed, nought, above, byGraph-above}
+use Rattle.graph.proofs.Graphs.{Graph, plain, degraded, small, reconstruct, large, failed, nought, above, graph, byGraph-above}
 use Rattle.graph.proofs.Numbers.{Numbered, reading, summing, writing, numbered, stepOf-read, stepOf-sum, stepOf-write, stepOf-above}
 use Rattle.graph.proofs.Rules.{setOf-none, setOf-one, setOf-widen, subset-test}
 
@@ -101,6 +100,54 @@ before-unit n g mask x p w a b h =
     rw (stepOf-write n p (omega arith))
     (setOf-none (stepNumbers n) (λ j. before n g mask x (wr p) (stepOf n j)) (λ j l. before-others n g mask x p (stepOf n j) w a b h))
 
+-- ---- the same, by the positions that the graph reads
+
+module _ (n g set : ℕ) where
+  read-needs : (p : ℕ) → p ≤ n → neededBy n g set (stepOf n p) ≡ 0
+  unfolding neededBy
+  read-needs p h = rw (stepOf-read n p h)
+
+  sum-needs : neededBy n g set (stepOf n (n + 1)) ≡ set
+  unfolding neededBy
+  sum-needs = rw (stepOf-sum n)
+
+  none-needed : (k : ℕ) → stepNumbers n ≤ k → neededBy n g set (stepOf n k) ≡ 0
+  unfolding neededBy
+  none-needed k h = rw (stepOf-above n k h)
+
+write-needed : (n g mask x p : ℕ) → p ≤ n → neededBy n g (setOf (n + 1) (reads n g mask x)) (stepOf n (n + 2 + p)) ≡ beforeSet n g mask x (n + 2 + p)
+unfolding neededBy
+write-needed n g mask x p h = rw (stepOf-write n p h) (⊎-elim (λ e. parity e) (λ e. unit e) (truth (eqb p n)))
+  where
+    needs : ℕ
+    needs = cond (eqb p n) (2 ^ (n + 1)) (cond (ltb p n) (cond (eqb g 3) (2 ^ p) (cond (eqb g 4) (setOf (n + 1) (reads n g mask x)) 0)) 0)
+
+    parity : eqb p n ≡ true → needs ≡ beforeSet n g mask x (n + 2 + p)
+    parity e =
+        let q : n + 2 + p ≡ 2 * n + 2 = omega (arith, eqb-true p n e) in
+        rw (e, q) (sym (before-parity n g mask x))
+
+    target : ℕ → Type 0
+    target g = cond (eqb g 3) (2 ^ p) (cond (eqb g 4) (setOf (n + 1) (reads n g mask x)) 0) ≡ beforeSet n g mask x (n + 2 + p)
+
+    other : p < n → eqb g 3 ≡ false → eqb g 4 ≡ false → target g
+    other l a b = rw (a, b) (sym (before-unit n g mask x p (graph g) (eqb-false g 3 a) (eqb-false g 4 b) l))
+
+    small-one : p < n → g ≡ 3 → target g
+    small-one l q = rw q (sym (before-small n mask x p l))
+
+    reconstruct-one : p < n → g ≡ 4 → target g
+    reconstruct-one l q = rw q (sym (before-reconstruct n mask x p l))
+
+    by-graph : p < n → target g
+    by-graph l =
+        ⊎-elim (λ a. small-one l (eqb-true g 3 a))
+        (λ a. ⊎-elim (λ b. reconstruct-one l (eqb-true g 4 b)) (λ b. other l a b) (truth (eqb g 4)))
+        (truth (eqb g 3))
+
+    unit : eqb p n ≡ false → needs ≡ beforeSet n g mask x (n + 2 + p)
+    unit e = let l : p < n = omega (arith, eqb-false p n e) in rw (e, lt-ltb p n l) (by-graph l)
+
 -- ---- a number is in the set of steps where its step is in the graph
 
 pub bit-steps : (n g mask x k : ℕ) → bit k (stepSet n g mask x) ≡ member n g mask x (stepOf n k)
@@ -113,7 +160,51 @@ bit-steps n g mask x k =
     bit-beyond (stepNumbers n) (setOf (stepNumbers n) p) k (setOf-bound (stepNumbers n) p) h ∙ sym (rw (stepOf-above n k h)))
     (truth (ltb k (stepNumbers n)))
 
+-- all that must come before is done where it is a subset of the done ones
+before-done : (n g mask x done k : ℕ) → partOf (beforeSet n g mask x k) done ≡ cleared n g mask x done (stepOf n k)
+unfolding partOf beforeSet cleared
+before-done n g mask x done k = subset-test (stepNumbers n) (λ j. before n g mask x (stepOf n k) (stepOf n j)) done
+
 -- no step is wanting where the steps are a subset of the done ones
-pub complete-test : (n g mask x done : ℕ) → eqb (bitAnd (stepSet n g mask x) done) (stepSet n g mask x) ≡ complete n g mask x done
-unfolding stepSet complete
+pub complete-test : (n g mask x done : ℕ) → partOf (stepSet n g mask x) done ≡ complete n g mask x done
+unfolding partOf stepSet complete
 complete-test n g mask x done = subset-test (stepNumbers n) (λ k. member n g mask x (stepOf n k)) done
+
+-- what is needed, by the positions that the graph reads, is what must come before
+pub needed-is : (n g mask x k : ℕ) → neededBy n g (setOf (n + 1) (reads n g mask x)) (stepOf n k) ≡ beforeSet n g mask x k
+needed-is n g mask x k =
+    ⊎-elim (λ e. below (numbered n k (ltb-true k (stepNumbers n) e))) (λ e. let h = ltb-false k (stepNumbers n) e in past h) (truth (ltb k (stepNumbers n)))
+  where
+    past : stepNumbers n ≤ k → neededBy n g (setOf (n + 1) (reads n g mask x)) (stepOf n k) ≡ beforeSet n g mask x k
+    past h = none-needed n g (setOf (n + 1) (reads n g mask x)) k h ∙ sym (before-none n g mask x k h)
+
+    below : Numbered n k → neededBy n g (setOf (n + 1) (reads n g mask x)) (stepOf n k) ≡ beforeSet n g mask x k
+    below (reading p h e) = rw e (read-needs n g (setOf (n + 1) (reads n g mask x)) p h ∙ sym (before-read n g mask x p h))
+    below (summing e) = rw e (sum-needs n g (setOf (n + 1) (reads n g mask x)) ∙ sym (before-sum n g mask x))
+    below (writing p h e) = rw e (write-needed n g mask x p h)
+
+-- a step is ready by the graph's sets where it is ready
+ready-is : (n g mask x done k : ℕ)
+    → readyBy n g (stepSet n g mask x) (setOf (n + 1) (reads n g mask x)) done k (stepOf n k) ≡ ready n g mask x done k
+unfolding readyBy ready cleared
+ready-is n g mask x done k =
+    rw (bit-steps n g mask x k, needed-is n g mask x k) (ap (_&&_ (member n g mask x (stepOf n k) && not (bit k done))) cleared-test)
+  where
+    cleared-test : partOf (beforeSet n g mask x k) done ≡ cleared n g mask x done (stepOf n k)
+    cleared-test = before-done n g mask x done k
+
+pub ready-of : (n g mask x done k whole read : ℕ) (s : Step) → whole ≡ stepSet n g mask x → read ≡ setOf (n + 1) (reads n g mask x) → s ≡ stepOf n k
+    → readyBy n g whole read done k s ≡ ready n g mask x done k
+ready-of n g mask x done k whole read s p q e = rw (p, q, e) (ready-is n g mask x done k)
+
+-- what a judgement tells, where the units are few
+pub judged-few : (n g mask x done : ℕ) → fewUnits n ≡ true
+    → judged n g mask x done
+    ≡ record {
+      right = closed n g mask x done;
+      whole = complete n g mask x done;
+      steps = stepSet n g mask x;
+      reads = setOf (n + 1) (reads n g mask x);
+    }
+unfolding judged
+judged-few n g mask x done f = rw f

@@ -9,6 +9,5 @@ pub mod Rules
 pub mod Positions
 pub mod Forerunners
 pub mod InOrder
-pub mod Judging
 pub mod Sizes
 pub mod Members

@@ -3,9 +3,9 @@ ghost use mathlib.Core.Bool.{cond, not, _&&_, _||_};
 ghost use mathlib.Core.Path.{_≡_};
 ghost use Prim.Native.Nat.{_+_, _≤_};
 ghost use Rattle.terms.specs.Sets.{setOf};
-ghost use Rattle.graph.specs.Asked.{fewUnits, stepSet, beforeSet, judged, afterOr};
+ghost use Rattle.graph.specs.Asked.{fewUnits, actionStep, stepSet, beforeSet, partOf, neededBy, readyBy, judged, afterOr};
 ghost use Rattle.graph.specs.Order.{ready, complete, closed};
-ghost use Rattle.graph.specs.Steps.{reads};
+ghost use Rattle.graph.specs.Steps.{wr, reads};
 use crate::choice::has;
 use crate::sets::below;
 use crate::sets::join;
@@ -13,31 +13,47 @@ use crate::sets::only;
 use crate::sets::read_set;
 use crate::sets::step_set;
 use crate::sets::write_set;
+use crate::steps::Action;
+use crate::steps::step_of;
 
-// What must come before step k.
-fn before_set(n: u64, g: u64, mask: u64, x: u64, k: u64) -> u64
-    requires { ⌜ n ≤ 7 ⌝ }
-    ensures { λ r. ⌜ r ≡ beforeSet n g mask x k ⌝ }
+// Whether set a is a part of set b.
+pub fn part_of(a: u64, b: u64) -> bool
+    ensures { λ r. ⌜ r ≡ partOf a b ⌝ }
 {
-    if k <= n {
-        return 0;
-    }
-    if k == n + 1 {
-        return read_set(n, g, mask, x);
-    }
-    if k > 2 * n + 2 {
-        return 0;
-    }
-    if k == 2 * n + 2 {
+    a & b == a
+}
+
+// What must come before the write of position p, by the positions that the graph reads.
+fn needed_to_write(n: u64, g: u64, reading: u64, p: u64) -> u64
+    requires { ⌜ n ≤ 7 ⌝ }
+    ensures { λ r. ⌜ r ≡ neededBy n g reading (wr p) ⌝ }
+{
+    if p == n {
         return only(n + 1);
     }
+    if p > n {
+        return 0;
+    }
     if g == 3 {
-        return only(k - (n + 2));
+        return only(p);
     }
     if g == 4 {
-        return read_set(n, g, mask, x);
+        return reading;
     }
     0
+}
+
+// What must come before a step, by the positions that the graph reads.
+fn needed(n: u64, g: u64, reading: u64, action: Action) -> u64
+    requires { ⌜ n ≤ 7 ⌝ }
+    ensures { λ r. ⌜ r ≡ neededBy n g reading (actionStep action) ⌝ }
+{
+    match action {
+        Action::Read(_) => 0,
+        Action::Sum => reading,
+        Action::Write(p) => needed_to_write(n, g, reading, p),
+        Action::Nothing => 0,
+    }
 }
 
 // The steps of the graph.
@@ -57,7 +73,23 @@ pub fn before(n: u64, g: u64, mask: u64, x: u64, k: u64) -> u64
     if n > 7 {
         return 0;
     }
-    before_set(n, g, mask, x, k)
+    needed(n, g, read_set(n, g, mask, x), step_of(n, k))
+}
+
+// Step k, which does this action, is ready, by the graph's steps and the positions that it reads.
+pub fn ready_by(n: u64, g: u64, whole: u64, reading: u64, done: u64, k: u64, action: Action) -> bool
+    ensures { λ r. ⌜ r ≡ (fewUnits n && readyBy n g whole reading done k (actionStep action)) ⌝ }
+{
+    if n > 7 {
+        return false;
+    }
+    if !has(k, whole) {
+        return false;
+    }
+    if has(k, done) {
+        return false;
+    }
+    part_of(needed(n, g, reading, action), done)
 }
 
 // Step k is ready: in the graph, not done, and lacks none that must come before.
@@ -67,14 +99,9 @@ pub fn ready(n: u64, g: u64, mask: u64, x: u64, done: u64, k: u64) -> bool
     if n > 7 {
         return false;
     }
-    if !has(k, step_set(n, g, mask, x)) {
-        return false;
-    }
-    if has(k, done) {
-        return false;
-    }
-    let needed = before_set(n, g, mask, x, k);
-    needed & done == needed
+    let reading = read_set(n, g, mask, x);
+    let whole = step_set(n, g, mask, x);
+    ready_by(n, g, whole, reading, done, k, step_of(n, k))
 }
 
 // No step of the graph is wanting.
@@ -84,8 +111,7 @@ pub fn complete(n: u64, g: u64, mask: u64, x: u64, done: u64) -> bool
     if n > 7 {
         return false;
     }
-    let steps = step_set(n, g, mask, x);
-    steps & done == steps
+    part_of(step_set(n, g, mask, x), done)
 }
 
 // The second holds where the first does.
@@ -127,29 +153,35 @@ fn in_order(n: u64, g: u64, mask: u64, x: u64, done: u64, reading: u64, whole: u
     true
 }
 
-// Of done steps: they are wrong, a step of the graph is wanting, or none is.
-pub enum Judged {
-    Wrong,
-    Wanting,
-    Whole,
+// Of done steps: whether they belong to the graph, each with its forerunners, and whether none is wanting; with the graph's steps
+// and the positions that it reads.
+pub struct Judged {
+    pub right: bool,
+    pub whole: bool,
+    pub steps: u64,
+    pub reads: u64,
 }
 
-// Whether the done steps belong to the graph, each with its forerunners, and whether one is wanting.
+// Judges the done steps of a graph.
 pub fn judge(n: u64, g: u64, mask: u64, x: u64, done: u64) -> Judged
     ensures { λ r. ⌜ r ≡ judged n g mask x done ⌝ }
 {
     if n > 7 {
-        return Judged::Wrong;
+        return Judged {
+            right: false,
+            whole: false,
+            steps: 0,
+            reads: 0,
+        };
     }
-    let reading = read_set(n, g, mask, x);
-    let whole = join(n, g, reading, write_set(n, g, mask, x));
-    if !in_order(n, g, mask, x, done, reading, whole) {
-        return Judged::Wrong;
+    let reads = read_set(n, g, mask, x);
+    let steps = join(n, g, reads, write_set(n, g, mask, x));
+    Judged {
+        right: in_order(n, g, mask, x, done, reads, steps),
+        whole: part_of(steps, done),
+        steps,
+        reads,
     }
-    if whole & done == whole {
-        return Judged::Whole;
-    }
-    Judged::Wanting
 }
 
 // The done set after step k; as it was where k is done already, or is no place of the set.

@@ -1,12 +1,12 @@
 -- A state, a record and a table as lists of numbers, for tests from outside: a record is eight numbers, in document 01's order.
 -- Assumes nothing.
 use Prim.Native.Nat.{ℕ, _+_, _*_, _/_}
+use mathlib.Core.Bool.{cond}
 use mathlib.Core.List.{List}
 use lib.ListN.{length, getD}
 use Rattle.terms.specs.Lists.{tabulate}
 use Rattle.geometry.specs.declared.State.{State}
 use Rattle.graph.specs.declared.order.Judged.{Judged}
-use Rattle.graph.specs.declared.order.Judged.the-variants.{Wrong, Wanting, Whole}
 use Rattle.graph.specs.Steps.{Step, rd, xr, wr, nil}
 use Rattle.record.specs.Marks.{marksOf}
 use Rattle.record.specs.declared.Marks.{Marks}
@@ -14,9 +14,7 @@ use Rattle.record.specs.declared.Record.{Record}
 
 -- a judgement of done steps: 0 wrong, 1 a step is wanting, 2 none is
 unfoldable pub judgedNumber : Judged → ℕ
-judgedNumber Wrong = 0
-judgedNumber Wanting = 1
-judgedNumber Whole = 2
+judgedNumber j = cond (j .right) (cond (j .whole) 2 1) 0
 
 -- what a step does: 1 reads, 2 is the exclusive or, 3 writes, 0 is no step; and its position
 unfoldable pub kindOf : Step → ℕ

@@ -10,7 +10,6 @@ ghost use Rattle.graph.specs.Steps.{stepOf};
 ghost use Rattle.graph.specs.Sums.{takesRead, takesNew, sumsToRead};
 ghost use Rattle.graph_test.specs.Numbers.{judgedNumber, kindOf, placeOf};
 use graph::Action;
-use graph::Judged;
 
 #[no_mangle]
 pub extern "C" fn graph_test_choose(n: u64, write: bool, mask: u64, x: u64) -> u64
@@ -53,11 +52,13 @@ pub extern "C" fn graph_test_judge(n: u64, g: u64, mask: u64, x: u64, done: u64)
     ensures { λ r. ⌜ r ≡ judgedNumber (judged n g mask x done) ⌝ }
 {
     let judged = graph::judge(n, g, mask, x, done);
-    match judged {
-        Judged::Wrong => 0,
-        Judged::Wanting => 1,
-        Judged::Whole => 2,
+    if !judged.right {
+        return 0;
     }
+    if judged.whole {
+        return 2;
+    }
+    1
 }
 
 // What step k does: 1 reads, 2 is the exclusive or, 3 writes, 0 is no step.

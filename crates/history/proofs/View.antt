@@ -9,6 +9,7 @@ use borrow.Author.Tests.{eqb-true, eqb-false}
 use lib.Bits.{bitXor}
 use lib.Dec.{eqb}
 use Rattle.terms.specs.Sets.{xorTo}
+use Rattle.geometry.proofs.Bounds.{legal-bounds}
 use Rattle.geometry.proofs.Places.{one-position}
 use Rattle.geometry.specs.Placement.{cardAt}
 use Rattle.geometry.specs.declared.State.{State}
@@ -24,6 +25,7 @@ use Rattle.stripe.specs.Blocks.{Blocks, changed, total, performed}
 use Rattle.stripe.specs.Group.{sumTo}
 use Rattle.history.proofs.Invariant.{requestOf, viewOf}
 use Rattle.history.proofs.Near.{Near}
+use Rattle.history.proofs.Placed.{layout}
 
 -- f with v at p: at p it is v, and at another place f
 at-place : (f g : ℕ → ℕ) (p : ℕ) (v : ℕ) (q : ℕ) → (q ≡ p → g q ≡ v) → (¬ (q ≡ p) → g q ≡ f q) → g q ≡ changed f p v q
@@ -38,8 +40,11 @@ module _ (st : State) (work image : List ℕ) (i : ℕ) (r : Record) (at : Stand
   abbrev before : Blocks ℕ
   before = viewOf st work image i (r .stripe) b
 
+  some-card : 0 < st .cards
+  some-card = omega (arith, legal-bounds (st .cards) (st .stripes) (st .block) (st .records) (at .limits))
+
   small : (q : ℕ) → q ≤ unitsOf st → q < st .cards
-  small q l = omega (arith, at .some-card)
+  small q l = omega (arith, some-card)
 
   -- the exclusive or is the same
   sum-same : sumByte st i r work b ≡ total bytes (unitsOf st) (requestOf st r) before
@@ -47,7 +52,7 @@ module _ (st : State) (work image : List ℕ) (i : ℕ) (r : Record) (at : Stand
   sum-same = ap₂ bitXor (over _) (over _)
     where
       over : (f : ℕ → ℕ) → xorTo (st .cards) f ≡ sumTo bytes (suc (unitsOf st)) f
-      over f = ap (λ (k : ℕ). xorTo k f) (let e : st .cards ≡ suc (unitsOf st) = omega (arith, at .some-card) in e) ∙ sym (sum-xor (suc (unitsOf st)) f)
+      over f = ap (λ (k : ℕ). xorTo k f) (let e : st .cards ≡ suc (unitsOf st) = omega (arith, some-card) in e) ∙ sym (sum-xor (suc (unitsOf st)) f)
 
   -- the view after a step
   abbrev seen : Step → Blocks ℕ
@@ -71,7 +76,7 @@ module _ (st : State) (work image : List ℕ) (i : ℕ) (r : Record) (at : Stand
         same-cell = λ q l d. at-place (before .cell) (seen (wr p) .cell) p (before .new p) q
             (λ e. rw e (write-cell st work image i r at p b hp hb))
             (λ d. write-cell-other st work image i r at p (cardAt (st .cards) (r .stripe) q) (r .stripe) b hp (at .stripe-below) hb
-            (λ f g. d (sym (one-position (at .placing) (r .stripe) p q hp (small q l) f))));
+            (λ f g. d (sym (one-position (layout (st .cards) some-card) (r .stripe) p q hp (small q l) f))));
         same-got = λ q l. unfold workAfter in refl;
         same-new = λ q l. unfold workAfter in refl;
       }

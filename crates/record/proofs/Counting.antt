@@ -14,6 +14,7 @@ use Rattle.geometry.specs.declared.State.{State}
 use Rattle.graph.specs.Asked.{afterOr}
 use Rattle.graph.specs.Order.{after}
 use Rattle.record.specs.Asked.{fewIn, canCount, canStep}
+use Rattle.record.specs.Look.{canMark}
 use Rattle.record.specs.declared.Record.{Record}
 
 pub count-fits : (r : Record) → canCount r ≡ true → Fits w64 (r .count + 1)
@@ -37,6 +38,22 @@ can-step-elim st r k e =
       place = and-left (ltb k 64) (not (bit k (r .done))) m;
       fresh = not-true (bit k (r .done)) (and-right (ltb k 64) (not (bit k (r .done))) m);
       room = and-right (fewIn st && p) (canCount r) e;
+    }
+
+pub record CanMark (r : Record) (k : ℕ) : Type 0 where
+  pub place : ltb k 64 ≡ true
+  pub fresh : bit k (r .done) ≡ false
+  pub room : canCount r ≡ true
+
+pub can-mark-elim : (r : Record) (k : ℕ) → canMark r k ≡ true → CanMark r k
+unfolding canMark
+can-mark-elim r k e =
+    let p : Bool = ltb k 64 && not (bit k (r .done)) in
+    let m = and-left p (canCount r) e in
+    record {
+      place = and-left (ltb k 64) (not (bit k (r .done))) m;
+      fresh = not-true (bit k (r .done)) (and-right (ltb k 64) (not (bit k (r .done))) m);
+      room = and-right p (canCount r) e;
     }
 
 -- the done steps take step k

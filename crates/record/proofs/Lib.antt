@@ -10,3 +10,4 @@ pub mod Marked
 pub mod Clauses
 pub mod Soundness
 pub mod Surveyed
+pub mod Looks

@@ -73,7 +73,7 @@ module _ (st : State) (r : Record) where
   sound-ready s o =
       progress (unitsOf st) (r .graph) (r .mask) (chosenAt st r) (r .done) (sound-elim s (open-not-free r o) .open-lacks o .0)
 
-  few-elim : fewIn st ≡ true → unitsOf st ≤ 7
+  pub few-elim : fewIn st ≡ true → unitsOf st ≤ 7
   unfolding fewUnits
   few-elim e = leb-true (unitsOf st) 7 e
 

@@ -49,3 +49,13 @@ pub struct Survey {
     pub held: [u64; 8],
     pub free: u64,
 }
+
+// What one look at a record finds: whether it is sound, and, of a sound one that is not free, the position that was missing when its
+// graph was chosen, the one that is missing now, the graph's steps and the positions that it reads; zeros of any other.
+pub struct Look {
+    pub sound: bool,
+    pub x: u64,
+    pub out: u64,
+    pub steps: u64,
+    pub reads: u64,
+}

@@ -2,6 +2,7 @@
 ghost use mathlib.Core.Bool.{cond};
 ghost use mathlib.Core.Path.{_≡_};
 ghost use Rattle.record.specs.Asked.{readyIn, canCount, canStep, steppedOr, afreshOr};
+ghost use Rattle.record.specs.Look.{canMark, afterStep, afterChoice};
 ghost use Rattle.record.specs.Life.{free, unitsOf, chosenAt, admitted};
 use crate::Record;
 use geometry::State;
@@ -90,6 +91,19 @@ impl Record {
         self.count < 0xffff_ffff_ffff_ffff
     }
 
+    // Step k can be marked done: it is a place of the done set, and not done yet.
+    fn can_mark(self, k: u64) -> bool
+        ensures { λ r. ⌜ r ≡ canMark self k ⌝ }
+    {
+        if k > 63 {
+            return false;
+        }
+        if graph::has(k, self.done) {
+            return false;
+        }
+        self.can_count()
+    }
+
     // Step k can be marked done.
     fn can_step(self, state: State, k: u64) -> bool
         ensures { λ r. ⌜ r ≡ canStep state self k ⌝ }
@@ -118,6 +132,37 @@ impl Record {
         let done = graph::after(self.done, k);
         self.phase = phase_after(graph::complete(n, self.graph, self.mask, x, done));
         self.done = done;
+        self.count += 1;
+        self
+    }
+
+    // The record after its step k is done: finished where none of the steps given is wanting; as it was where k can't be marked.
+    pub fn after_step(mut self, k: u64, steps: u64) -> Record
+        ensures { λ r. ⌜ r ≡ afterStep self k steps ⌝ }
+    {
+        if !self.can_mark(k) {
+            return self;
+        }
+        let done = graph::after(self.done, k);
+        self.phase = phase_after(graph::part_of(steps, done));
+        self.done = done;
+        self.count += 1;
+        self
+    }
+
+    // The record after a fresh choice with this position missing; as it was where no step can be counted.
+    pub fn after_choice(mut self, state: State, out: u64) -> Record
+        ensures { λ r. ⌜ r ≡ afterChoice state self out ⌝ }
+    {
+        if !self.can_count() {
+            return self;
+        }
+        let n = units(state);
+        let write = self.write == 1;
+        self.phase = 1;
+        self.graph = graph::choose(n, write, self.mask, out);
+        self.chosen = state.out_in(self.stripe);
+        self.done = 0;
         self.count += 1;
         self
     }

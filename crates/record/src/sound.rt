@@ -1,17 +1,19 @@
 // When a record is sound, clause by clause.
-ghost use mathlib.Core.Bool.{cond, not, _&&_};
+ghost use mathlib.Core.Bool.{false, cond, not, _&&_};
 ghost use mathlib.Core.Path.{_≡_};
 ghost use Prim.Native.Nat.{_+_, _*_, _≤_};
 ghost use lib.Dec.{leb};
-ghost use Rattle.record.specs.Asked.{soundRecordIn, heldStripe};
+ghost use Rattle.record.specs.Asked.{fewIn, soundRecordIn, heldStripe};
+ghost use Rattle.record.specs.Life.{isFree, chosenAt, missingIn};
+ghost use Rattle.record.specs.Look.{found, nothing, lookOf};
 ghost use Rattle.record.specs.Marks.{markOf};
 ghost use Rattle.record.specs.Sound.{allZero, legalMask, legalRecord, legalChosen};
+use crate::Look;
 use crate::Record;
 use crate::life::units;
 use geometry::NO_STRIPE;
 use geometry::NONE;
 use geometry::State;
-use graph::Judged;
 
 // A free record's mark, and that of one that is not sound.
 
@@ -47,6 +49,19 @@ fn right_count(n: u64, open: bool, lacks_none: bool, count: u64) -> bool
         return false;
     }
     count <= 2 * n + 3
+}
+
+// Nothing found but whether the record is sound.
+fn nothing(sound: bool) -> Look
+    ensures { λ r. ⌜ r ≡ nothing sound ⌝ }
+{
+    Look {
+        sound,
+        x: 0,
+        out: 0,
+        steps: 0,
+        reads: 0,
+    }
 }
 
 impl Record {
@@ -100,34 +115,81 @@ impl Record {
         self.chosen == state.out_in(self.stripe)
     }
 
+    // A free record is sound: every number is zero.
+    fn free_sound(self, state: State) -> bool
+        ensures { λ r. ⌜ r ≡ (fewIn state && allZero self) ⌝ }
+    {
+        if units(state) > 7 {
+            return false;
+        }
+        self.all_zero()
+    }
+
+    // What is found of a record that is not free; x is the position that was missing at its choice, and out is handed on.
+    fn looked(self, state: State, x: u64, out: u64) -> Look
+        requires { ⌜ (isFree self ≡ false) × (x ≡ chosenAt state self) ⌝ }
+        ensures { λ r. ⌜ r ≡ cond (soundRecordIn state self) (found state self out) (nothing false) ⌝ }
+    {
+        let n = units(state);
+        if n > 7 {
+            return nothing(false);
+        }
+        if !self.is_legal(state) {
+            return nothing(false);
+        }
+        if !self.legal_chosen(state) {
+            return nothing(false);
+        }
+        if self.graph != graph::choose(n, self.write == 1, self.mask, x) {
+            return nothing(false);
+        }
+        let judged = graph::judge(n, self.graph, self.mask, x, self.done);
+        if !judged.right {
+            return nothing(false);
+        }
+        if !right_count(n, self.phase == 1, judged.whole, self.count) {
+            return nothing(false);
+        }
+        Look {
+            sound: true,
+            x,
+            out,
+            steps: judged.steps,
+            reads: judged.reads,
+        }
+    }
+
     // The record is sound.
     pub fn is_sound(self, state: State) -> bool
         ensures { λ r. ⌜ r ≡ soundRecordIn state self ⌝ }
     {
-        let n = units(state);
-        if n > 7 {
-            return false;
-        }
         if self.phase == 0 {
-            return self.all_zero();
+            return self.free_sound(state);
         }
-        if !self.is_legal(state) {
-            return false;
+        let look = self.looked(state, self.chosen_at(state), 0);
+        look.sound
+    }
+
+    // The position that is missing now, where x is the one that was at the choice.
+    fn missing_now(self, state: State, x: u64) -> u64
+        requires { ⌜ x ≡ chosenAt state self ⌝ }
+        ensures { λ r. ⌜ r ≡ missingIn state (self .stripe) ⌝ }
+    {
+        if self.chosen == state.out_in(self.stripe) {
+            return x;
         }
-        if !self.legal_chosen(state) {
-            return false;
+        state.missing_in(self.stripe)
+    }
+
+    // What one look at the record finds.
+    pub fn look(self, state: State) -> Look
+        ensures { λ r. ⌜ r ≡ lookOf state self ⌝ }
+    {
+        if self.phase == 0 {
+            return nothing(self.free_sound(state));
         }
         let x = self.chosen_at(state);
-        if self.graph != graph::choose(n, self.write == 1, self.mask, x) {
-            return false;
-        }
-        let open = self.phase == 1;
-        let judged = graph::judge(n, self.graph, self.mask, x, self.done);
-        match judged {
-            Judged::Wrong => false,
-            Judged::Wanting => right_count(n, open, false, self.count),
-            Judged::Whole => right_count(n, open, true, self.count),
-        }
+        self.looked(state, x, self.missing_now(state, x))
     }
 
     // The stripe that the record holds, or a number that is no stripe's.

@@ -3,3 +3,4 @@ pub mod Lists
 pub mod Rows
 pub mod Sets
 pub mod Bits
+pub mod Refusals

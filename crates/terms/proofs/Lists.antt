@@ -1,4 +1,4 @@
--- Laws of `tabulate`, `part`, `put` and `every`: how long each is, and what stands at each place.
+-- Laws of `tabulate`, `part`, `put`, `every` and `set`: how long each is, and what stands at each place.
 -- Assumes nothing.
 use Prim.Native.Nat.{ℕ, zero, suc, _+_, _-_, _≤_, _<_}
 use mathlib.Core.Bool.{Bool, true}
@@ -7,7 +7,7 @@ use mathlib.Core.Logic.{_⊎_, inl, inr}
 use mathlib.Core.Path.{_≡_, refl, sym, ap, _∙_}
 use native.Mathlib.Nat.{le-of-suc-le-suc, not-suc-le-zero}
 use native.Mathlib.Omega.{arith}
-use lib.ListN.{length, getD, take, drop, length-append, length-take, length-drop, List·getD-append}
+use lib.ListN.{length, getD, set, take, drop, length-append, length-take, length-drop, List·getD-append}
 use lib.Seq.{getD-take, getD-drop, getD-append-add, length-take-le, ext-getD}
 use Rattle.terms.specs.Lists.{tabulate, part, put, every}
 use Rattle.terms.proofs.Rows.{and-left, and-right, and-both}
@@ -135,3 +135,8 @@ module _ {ℓ} {A : Type ℓ} where
   every-intro p [] d h = refl
   every-intro p (a ∷ l) d h =
       and-both (p a) (every p l) (h zero (omega arith)) (every-intro p l d (λ i q. h (suc i) (omega arith)))
+
+  -- past the end nothing is put
+  pub set-end : (l : List A) (a : A) → set l (length l) a ≡ l
+  set-end [] a = refl
+  set-end (x ∷ xs) a = ap {B = List A} (λ r. x ∷ r) (set-end xs a)

@@ -1,114 +1,118 @@
 -- `array::admits::admit_refusal` meets its contract: each `return` is the first row whose test holds.
 -- Assumes nothing.
-use mathlib.Core.List.{List}
-use mathlib.Core.Path.{_≡_, sym, _∙_}
+use mathlib.Core.Bool.{Bool, false, _||_}
+use mathlib.Core.Path.{_≡_, sym, ap, _∙_}
 use native.Mathlib.Omega.{arith}
-use borrow.Author.Needs.{needs}
+use borrow.Author.Tests.{le-leb, lt-leb}
 use denote.Ref.{now}
-use lib.ListN.{length}
-use Rattle.geometry.proofs.Bounds.{legal-bounds}
+use Rattle.terms.specs.Reply.{firstRow}
+use Rattle.geometry.specs.Limits.{beyondState}
+use Rattle.geometry.specs.Store.{imageWrong, workWrong}
 use Rattle.geometry.proofs.Flags.{fails, holds}
-use Rattle.record.specs.Marks.{marksOf}
-use Rattle.record.specs.Sound.{held}
-use Rattle.record.specs.declared.Record.{Record}
-use Rattle.array.specs.Premises.{Lengths}
-use Rattle.array.specs.Refusals.{payloadWrong}
-use Rattle.array.proofs.Given.{never, keeps}
-use Rattle.array.proofs.Lending.{marks-length}
-use Rattle.array.proofs.Own.{admit-first, admit-range, admit-mask, admit-payload, admit-held, admit-full, admit-granted}
-use Rattle.array.proofs.Told.{lent-fine, told-held, told-free}
+use Rattle.geometry.proofs.Lengths.{state-bounds}
+use Rattle.array.specs.Lent.{tableWrong, lentRows}
+use Rattle.array.specs.Refusals.{admitRefusal, admitRows, payloadWrong}
+use Rattle.array.proofs.Accepted.{legal-state}
+use Rattle.array.proofs.LentRows.{beyond-refuses, lent-refuses, lent-passes}
+use borrow.Author.Needs.{needs}
 use Rattle.array.proofs.admits.admit_refusal.Statement.{statement}
 use Rattle.array.proofs.admits.admit_refusal.Tie as tie
 
-lent-refusal-requires : tie.Need-lent-refusal-requires
-lent-refusal-requires c κs = search needs
+beyond-requires : tie.Need-beyond-requires
+beyond-requires c κs = search needs
 
 returns : tie.Need-returns
-returns c =
-    let a = c .before .before .before .before .before .args in
-    (λ t m. admit-first (a .state) t (now (a .work)) (now (a .image)) (a .write) (a .stripe) (a .mask) (now (a .payload)) _ (c .before .lent-refusal .ensures .0 t m) (c .if1 .taken), never (c .if1 .taken))
+unfolding admitRefusal
+returns c = beyond-refuses _ _ _ _ (sym (c .before .beyond .ensures) ∙ c .if1 .taken)
 
--- rows 1 to 4 are passed
-lengths : (c : tie.Else1) → let a = c .before .before .before .before .before .args in Lengths (a .state) (a .marks .len) (length (now (a .work))) (length (now (a .image)))
-lengths c = c .before .lent-refusal .ensures .1 (c .if1 .left)
+-- the limits hold
+inside : (c : tie.Else1) → beyondState (c .before .before .before .before .before .args .state) ≡ false
+inside c = sym (c .before .beyond .ensures) ∙ c .if1 .left
+
+lent-wrong-requires : tie.Need-lent-wrong-requires
+lent-wrong-requires c κs = legal-state (c .before .before .before .before .before .args .state) (inside c)
+
+lent-refusal-requires : tie.Need-lent-refusal-requires
+lent-refusal-requires c κs = inside (c .before)
+
+-- rows 1 to 4; where none of them refuses the call's own are left
+lent : (c : tie.After-lent-refusal) → let a = c .before .before .before .before .before .before .before .args in
+    c .lent-refusal .result
+    ≡ firstRow
+    (lentRows (a .state) (imageWrong (a .state) (now (a .image)) || tableWrong (a .state) (a .survey .len) || workWrong (a .state) (now (a .work))) (a .survey .sound))
+lent c =
+    let a = c .before .before .before .before .before .before .before .args in
+    c .lent-refusal .ensures ∙ ap (λ (w : Bool). firstRow (lentRows (a .state) w (a .survey .sound))) (c .before .lent-wrong .ensures)
+
+own : (c : tie.Else2) → let a = c .before .before .before .before .before .before .before .before .args in
+    admitRefusal (a .state) (a .survey) (now (a .work)) (now (a .image)) (a .write) (a .stripe) (a .mask) (now (a .payload))
+    ≡ firstRow (admitRows (a .state) (a .survey) (a .write) (a .stripe) (a .mask) (now (a .payload)))
+unfolding admitRefusal
+own c = lent-passes _ _ _ _ (lent (c .before)) (c .if2 .left) _
 
 returns-2 : tie.Need-returns-2
-returns-2 c =
-    let a = c .before .before .before .before .before .before .before .args in
-    (λ t m. admit-range (a .state) t (now (a .work)) (now (a .image)) (a .write) (a .stripe) (a .mask) (now (a .payload)) _ (c .before .before .before .lent-refusal .ensures .0 t m) (c .before .before .if1 .left) (c .if2 .taken), never (λ q. omega arith))
+unfolding admitRefusal
+returns-2 c = lent-refuses _ _ _ _ (lent (c .before)) _ (c .if2 .taken)
+
+returns-3 : tie.Need-returns-3
+unfolding admitRows firstRow
+returns-3 c = sym (own (c .before .before) ∙ rw (le-leb _ _ (c .if3 .taken)))
 
 sub-legal-mask : tie.Need-sub-legal-mask
-sub-legal-mask c = omega (arith, legal-bounds _ _ _ _ (lengths (c .before .before .before) .limits))
+sub-legal-mask c = omega (arith, state-bounds (c .before .before .before .before .before .before .before .before .before .before .before .args .state) (inside (c .before .before .before .before .before .before)))
 
 legal-mask-requires : tie.Need-legal-mask-requires
 legal-mask-requires c κs = search needs
 
-returns-3 : tie.Need-returns-3
-returns-3 c =
-    let a = c .before .before .before .before .before .before .before .before .before .before .args in
-    (λ t m. admit-mask (a .state) t (now (a .work)) (now (a .image)) (a .write) (a .stripe) (a .mask) (now (a .payload)) _ (c .before .before .before .before .before .before .lent-refusal .ensures .0 t m) (c .before .before .before .before .before .if1 .left) (c .before .before .before .if2 .left) (fails (c .before .legal-mask .ensures) (c .if3 .taken)), never (λ q. omega arith))
+returns-4 : tie.Need-returns-4
+unfolding admitRows firstRow
+returns-4 c = sym (own (c .before .before .before .before .before) ∙ rw (lt-leb _ _ (c .before .before .before .if3 .left), fails (c .before .legal-mask .ensures) (c .if4 .taken)))
 
 payload-wrong-requires : tie.Need-payload-wrong-requires
-payload-wrong-requires c κs = omega (arith, legal-bounds _ _ _ _ (lengths (c .before .before .before .before .before) .limits))
+payload-wrong-requires c κs = omega (arith, state-bounds (c .before .before .before .before .before .before .before .before .before .before .before .before .before .args .state) (inside (c .before .before .before .before .before .before .before .before)))
 
-returns-4 : tie.Need-returns-4
-unfolding payloadWrong
-returns-4 c =
-    let a = c .before .before .before .before .before .before .before .before .before .before .before .before .args in
-    (λ t m. admit-payload (a .state) t (now (a .work)) (now (a .image)) (a .write) (a .stripe) (a .mask) (now (a .payload)) _ (c .before .before .before .before .before .before .before .before .lent-refusal .ensures .0 t m) (c .before .before .before .before .before .before .before .if1 .left) (c .before .before .before .before .before .if2 .left) (holds (c .before .before .before .legal-mask .ensures) (c .before .before .if3 .left)) (sym (c .before .payload-wrong .ensures) ∙ c .if4 .taken), never (λ q. omega arith))
+returns-5 : tie.Need-returns-5
+unfolding admitRows payloadWrong firstRow
+returns-5 c = sym (own (c .before .before .before .before .before .before .before) ∙ rw (lt-leb _ _ (c .before .before .before .before .before .if3 .left), holds (c .before .before .before .legal-mask .ensures) (c .before .before .if4 .left), sym (c .before .payload-wrong .ensures) ∙ c .if5 .taken))
 
 is-held-requires : tie.Need-is-held-requires
 is-held-requires c κs = search needs
 
--- whether the stripe is held, by the marks
-held-is : (c : tie.After-is-held) (t : List Record) → let a = c .before .before .before .before .before .before .before .before .before .before .before .before .before .args in a .marks ≡ marksOf (a .state) t → c .is-held .result ≡ held t (a .stripe)
-held-is c t m =
-    let a = c .before .before .before .before .before .before .before .before .before .before .before .before .before .args in
-    c .is-held .ensures ∙ told-held (a .state) t (lent-fine (a .state) t (length (now (a .work))) (length (now (a .image))) (sym (c .before .before .before .before .before .before .before .before .before .lent-refusal .ensures .0 t m) ∙ c .before .before .before .before .before .before .before .before .if1 .left)) (a .marks) m (a .stripe) (c .before .before .before .before .before .before .if2 .left)
-
-returns-5 : tie.Need-returns-5
-unfolding payloadWrong
-returns-5 c =
-    let a = c .before .before .before .before .before .before .before .before .before .before .before .before .before .before .args in
-    (λ t m. admit-held (a .state) t (now (a .work)) (now (a .image)) (a .write) (a .stripe) (a .mask) (now (a .payload)) _ (c .before .before .before .before .before .before .before .before .before .before .lent-refusal .ensures .0 t m) (c .before .before .before .before .before .before .before .before .before .if1 .left) (c .before .before .before .before .before .before .before .if2 .left) (holds (c .before .before .before .before .before .legal-mask .ensures) (c .before .before .before .before .if3 .left)) (sym (c .before .before .before .payload-wrong .ensures) ∙ c .before .before .if4 .left) (sym (held-is (c .before) t m) ∙ c .if5 .taken), never (λ q. omega arith))
-
-lowest-free-requires : tie.Need-lowest-free-requires
-lowest-free-requires c κs = search needs
-
 returns-6 : tie.Need-returns-6
-unfolding payloadWrong
+unfolding admitRows payloadWrong firstRow
 returns-6 c =
-    let a = c .before .before .before .before .before .before .before .before .before .before .before .before .before .before .before .before .before .args in (
-      λ t m. admit-full (a .state) t (now (a .work)) (now (a .image)) (a .write) (a .stripe) (a .mask) (now (a .payload)) _ (c .before .before .before .before .before .before .before .before .before .before .before .before .before .lent-refusal .ensures .0 t m) (c .before .before .before .before .before .before .before .before .before .before .before .before .if1 .left) (c .before .before .before .before .before .before .before .before .before .before .if2 .left) (holds (c .before .before .before .before .before .before .before .before .legal-mask .ensures) (c .before .before .before .before .before .before .before .if3 .left)) (sym (c .before .before .before .before .before .before .payload-wrong .ensures) ∙ c .before .before .before .before .before .if4 .left) (sym (held-is (c .before .before .before .before) t m) ∙ c .before .before .before .if5 .left)
-          (sym (c .before .before .lowest-free .ensures ∙ told-free (a .state) t (lent-fine (a .state) t (length (now (a .work))) (length (now (a .image))) (sym (c .before .before .before .before .before .before .before .before .before .before .before .before .before .lent-refusal .ensures .0 t m) ∙ c .before .before .before .before .before .before .before .before .before .before .before .before .if1 .left)) (a .marks) m) ∙ c .if6 .taken ∙ marks-length (a .state) (a .marks) t m),
-      never (λ q. omega arith),
-    )
+    sym
+    (own (c .before .before .before .before .before .before .before .before .before)
+    ∙ rw (lt-leb _ _ (c .before .before .before .before .before .before .before .if3 .left), holds (c .before .before .before .before .before .legal-mask .ensures) (c .before .before .before .before .if4 .left), sym (c .before .before .before .payload-wrong .ensures) ∙ c .before .before .if5 .left, sym (c .before .is-held .ensures) ∙ c .if6 .taken))
 
 returns-7 : tie.Need-returns-7
-unfolding payloadWrong
+unfolding admitRows payloadWrong firstRow
 returns-7 c =
-    let a = c .before .before .before .before .before .before .before .before .before .before .before .before .before .before .before .before .before .args in
-    let mask = holds (c .before .before .before .before .before .before .before .before .legal-mask .ensures) (c .before .before .before .before .before .before .before .if3 .left) in
-    let payload = sym (c .before .before .before .before .before .before .payload-wrong .ensures) ∙ c .before .before .before .before .before .if4 .left in (
-      λ t m. admit-granted (a .state) t (now (a .work)) (now (a .image)) (a .write) (a .stripe) (a .mask) (now (a .payload)) _ (c .before .before .before .before .before .before .before .before .before .before .before .before .before .lent-refusal .ensures .0 t m) (c .before .before .before .before .before .before .before .before .before .before .before .before .if1 .left) (c .before .before .before .before .before .before .before .before .before .before .if2 .left) mask payload (sym (held-is (c .before .before .before .before) t m) ∙ c .before .before .before .if5 .left)
-          (λ q. c .if6 .left (c .before .before .lowest-free .ensures ∙ told-free (a .state) t (lent-fine (a .state) t (length (now (a .work))) (length (now (a .image))) (sym (c .before .before .before .before .before .before .before .before .before .before .before .before .before .lent-refusal .ensures .0 t m) ∙ c .before .before .before .before .before .before .before .before .before .before .before .before .if1 .left)) (a .marks) m ∙ q ∙ sym (marks-length (a .state) (a .marks) t m))),
-      λ z w. keeps (a .state) (a .marks) (a .mask) (a .write) (now (a .payload)) (now (a .work)) (length (now (a .image))) (lengths (c .before .before .before .before .before .before .before .before .before .before .before .before)) mask payload (λ q. c .if6 .left (c .before .before .lowest-free .ensures ∙ q)) w,
-    )
+    let e = c .before .before .before in
+    sym (own (e .before .before .before .before .before .before .before .before .before) ∙ rw (lt-leb _ _ (e .before .before .before .before .before .before .before .if3 .left), holds (e .before .before .before .before .before .legal-mask .ensures) (e .before .before .before .before .if4 .left), sym (e .before .before .before .payload-wrong .ensures) ∙ e .before .before .if5 .left, sym (e .before .is-held .ensures) ∙ e .if6 .left, le-leb _ _ (c .if7 .taken)))
+
+returns-8 : tie.Need-returns-8
+unfolding admitRows payloadWrong firstRow
+returns-8 c =
+    let e = c .before .before .before in
+    sym (own (e .before .before .before .before .before .before .before .before .before) ∙ rw (lt-leb _ _ (e .before .before .before .before .before .before .before .if3 .left), holds (e .before .before .before .before .before .legal-mask .ensures) (e .before .before .before .before .if4 .left), sym (e .before .before .before .payload-wrong .ensures) ∙ e .before .before .if5 .left, sym (e .before .is-held .ensures) ∙ e .if6 .left, lt-leb _ _ (c .if7 .left)))
 
 pub admit-refusal-spec : {M : Type 1} → statement M
 admit-refusal-spec =
     tie.close
     (tie.spec
-    lent-refusal-requires
+    beyond-requires
     returns
+    lent-wrong-requires
+    lent-refusal-requires
     returns-2
+    returns-3
     sub-legal-mask
     legal-mask-requires
-    returns-3
-    payload-wrong-requires
     returns-4
-    is-held-requires
+    payload-wrong-requires
     returns-5
-    lowest-free-requires
+    is-held-requires
     returns-6
-    returns-7)
+    returns-7
+    returns-8)

@@ -7,8 +7,7 @@ use borrow.Author.Needs.{needs}
 use denote.Ref.{now}
 use Rattle.terms.proofs.Bits.{bit-odd, bit-even}
 use Rattle.array.specs.Admission.{keepUnit, keepUnits}
-use Rattle.array.proofs.Turns.{Turned, turned-none, turned-all}
-use Rattle.array.proofs.Units.{keeping-bounds, keep-room, keep-more, keep-pass}
+use Rattle.array.proofs.Units.{Turned, turned-none, turned-pass, turned-all, keeping-bounds, keep-room, keep-more}
 use Rattle.array.proofs.admits.keep_units.Statement.{statement}
 use Rattle.array.proofs.admits.keep_units.Tie as tie
 
@@ -19,33 +18,31 @@ Inv-loop state «record» mask payload work₀ units size from₀ u₀ work from
 abbrev μ-loop : tie.MeasureT-loop
 μ-loop state «record» mask payload work₀ units size from₀ u₀ work from u = units - u
 
--- src/admits.rt:14:17
 sub-units : tie.Need-sub-units Inv-loop μ-loop
 sub-units c =
     let s = c .before .before .before in
     let a = s .args in
     omega (arith, keeping-bounds (a .state) (a .«record») (a .mask) (now (a .payload)) (now (a .work)) (s .pre))
 
--- src/admits.rt:18:5
 loop-holds : tie.Need-loop-holds Inv-loop μ-loop
 loop-holds c = turned-none _ _ _ _ _
 
--- src/admits.rt:19:13
 shr-if1 : tie.Need-shr-if1 Inv-loop μ-loop
 shr-if1 c =
     let s = c .before .before .before .before .before in
     let a = s .args in
     omega (arith, keeping-bounds (a .state) (a .«record») (a .mask) (now (a .payload)) (now (a .work)) (s .pre))
 
--- src/admits.rt:20:17
 write-at-requires : tie.Need-write-at-requires Inv-loop μ-loop
-write-at-requires c κs = search needs
+write-at-requires c κs =
+    let s = c .before .before .before .before .before .before in
+    let a = s .args in
+    let b = keeping-bounds (a .state) (a .«record») (a .mask) (now (a .payload)) (now (a .work)) (s .pre) in
+    (s .pre .limits, s .pre .record-below, omega (arith, b, c .before .loop-test .taken))
 
--- src/admits.rt:21:13
 carry-requires : tie.Need-carry-requires Inv-loop μ-loop
 carry-requires c κs = search needs
 
--- src/admits.rt:22:13
 add-from : tie.Need-add-from Inv-loop μ-loop
 add-from c =
     let s = c .before .before .before .before .before .before .before .before .before .before .before in
@@ -58,15 +55,12 @@ add-from c =
           (bit-odd (k .u) (a .mask) (c .before .before .before .before .before .if1 .taken)),
     )
 
--- src/admits.rt:24:9
 add-u : tie.Need-add-u Inv-loop μ-loop
 add-u c = search needs
 
--- src/admits.rt:18:5
 loop-less : tie.Need-loop-less Inv-loop μ-loop
 loop-less c = search needs
 
--- src/admits.rt:18:5
 loop-again : tie.Need-loop-again Inv-loop μ-loop
 loop-again c =
     let s = c .before .before .before .before .before .before in
@@ -79,15 +73,12 @@ loop-again c =
     (c .before .loop-test .taken) (bit-odd (k .u) (a .mask) (w .0 .taken)) _ _ (w .1 .ensures) (w .3 .ensures)))
     (λ w.
     rw (w .1, w .2)
-    (keep-pass (a .state) (a .«record») (a .mask) (now (a .payload)) (now (a .work)) (s .pre) (k .work) (k .from) (k .u) (k .inv)
-    (c .before .loop-test .taken) (bit-even (k .u) (a .mask) (w .0 .left))))
+    (turned-pass _ _ _ _ _ (k .work) (k .from) (k .u) (k .inv) (c .before .loop-test .taken) (bit-even (k .u) (a .mask) (w .0 .left)) (rw (bit-even (k .u) (a .mask) (w .0 .left)))))
     (c .if1 .came)
 
--- src/admits.rt:10:1
 same-length : tie.Need-same-length Inv-loop μ-loop
 same-length c = c .before .loop .inv .as-long
 
--- src/admits.rt:10:1
 returns : tie.Need-returns Inv-loop μ-loop
 unfolding keepUnits
 returns c =

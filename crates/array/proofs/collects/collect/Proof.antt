@@ -1,25 +1,23 @@
--- `array::collects::collect` meets its contract: the call by marks, of the table's own marks.
+-- `array::collects::collect` meets its contract: the call by survey, of the table's own survey and its record.
 -- Assumes nothing.
 use borrow.Author.Needs.{needs}
-use Rattle.record.specs.Life.{recordsOf}
 use Rattle.array.proofs.collects.collect.Statement.{statement}
 use Rattle.array.proofs.collects.collect.Tie as tie
 
-marks-requires : tie.Need-marks-requires
-marks-requires c κs = search needs
+survey-requires : tie.Need-survey-requires
+survey-requires c κs = search needs
 
 at-requires : tie.Need-at-requires
 at-requires c κs = search needs
 
-collect-marked-requires : tie.Need-collect-marked-requires
-collect-marked-requires c κs = search needs
+collect-by-requires : tie.Need-collect-by-requires
+collect-by-requires c κs = search needs
 
 same-length : tie.Need-same-length
 same-length c = search needs
 
 returns : tie.Need-returns
-returns c = c .before .before .collect-marked .ensures (recordsOf (c .before .before .before .before .before .before .before .before .args .table)) (c .before .before .before .before .before .marks .ensures) (c .before .before .before .before .at .ensures)
+returns c = rw (c .before .before .before .before .before .survey .ensures, c .before .before .before .before .at .ensures) at (c .before .before .collect-by .ensures)
 
 pub collect-spec : {M : Type 1} → statement M
-collect-spec =
-    tie.close (tie.spec marks-requires at-requires collect-marked-requires same-length returns)
+collect-spec = tie.close (tie.spec survey-requires at-requires collect-by-requires same-length returns)

@@ -7,8 +7,7 @@ use borrow.Author.Needs.{needs}
 use denote.Ref.{now}
 use Rattle.terms.proofs.Bits.{bit-odd, bit-even}
 use Rattle.array.specs.Collection.{handUnit, handOver}
-use Rattle.array.proofs.Turns.{Turned, turned-none, turned-all}
-use Rattle.array.proofs.Units.{keeping-bounds, keep-room, hand-more, hand-pass}
+use Rattle.array.proofs.Units.{Turned, turned-none, turned-pass, turned-all, keeping-bounds, keep-room, hand-more}
 use Rattle.array.proofs.collects.hand_over.Statement.{statement}
 use Rattle.array.proofs.collects.hand_over.Tie as tie
 
@@ -19,33 +18,31 @@ Inv-loop state «record» mask work result₀ units size place₀ u₀ result pl
 abbrev μ-loop : tie.MeasureT-loop
 μ-loop state «record» mask work result₀ units size place₀ u₀ result place u = units - u
 
--- src/admits.rt:14:17
 sub-units : tie.Need-sub-units Inv-loop μ-loop
 sub-units c =
     let s = c .before .before .before in
     let a = s .args in
     omega (arith, keeping-bounds (a .state) (a .«record») (a .mask) (now (a .result)) (now (a .work)) (s .pre))
 
--- src/admits.rt:18:5
 loop-holds : tie.Need-loop-holds Inv-loop μ-loop
 loop-holds c = turned-none _ _ _ _ _
 
--- src/admits.rt:19:13
 shr-if1 : tie.Need-shr-if1 Inv-loop μ-loop
 shr-if1 c =
     let s = c .before .before .before .before .before in
     let a = s .args in
     omega (arith, keeping-bounds (a .state) (a .«record») (a .mask) (now (a .result)) (now (a .work)) (s .pre))
 
--- src/admits.rt:20:17
 read-at-requires : tie.Need-read-at-requires Inv-loop μ-loop
-read-at-requires c κs = search needs
+read-at-requires c κs =
+    let s = c .before .before .before .before .before .before in
+    let a = s .args in
+    let b = keeping-bounds (a .state) (a .«record») (a .mask) (now (a .result)) (now (a .work)) (s .pre) in
+    (s .pre .limits, s .pre .record-below, omega (arith, b, c .before .loop-test .taken))
 
--- src/admits.rt:21:13
 carry-requires : tie.Need-carry-requires Inv-loop μ-loop
 carry-requires c κs = search needs
 
--- src/admits.rt:22:13
 add-place : tie.Need-add-place Inv-loop μ-loop
 add-place c =
     let s = c .before .before .before .before .before .before .before .before .before .before .before in
@@ -58,15 +55,12 @@ add-place c =
           (bit-odd (k .u) (a .mask) (c .before .before .before .before .before .if1 .taken)),
     )
 
--- src/admits.rt:24:9
 add-u : tie.Need-add-u Inv-loop μ-loop
 add-u c = search needs
 
--- src/admits.rt:18:5
 loop-less : tie.Need-loop-less Inv-loop μ-loop
 loop-less c = search needs
 
--- src/admits.rt:18:5
 loop-again : tie.Need-loop-again Inv-loop μ-loop
 loop-again c =
     let s = c .before .before .before .before .before .before in
@@ -79,15 +73,12 @@ loop-again c =
     (c .before .loop-test .taken) (bit-odd (k .u) (a .mask) (w .0 .taken)) _ _ (w .1 .ensures) (w .3 .ensures)))
     (λ w.
     rw (w .1, w .2)
-    (hand-pass (a .state) (a .«record») (a .mask) (now (a .result)) (now (a .work)) (s .pre) (k .result) (k .place) (k .u) (k .inv)
-    (c .before .loop-test .taken) (bit-even (k .u) (a .mask) (w .0 .left))))
+    (turned-pass _ _ _ _ _ (k .result) (k .place) (k .u) (k .inv) (c .before .loop-test .taken) (bit-even (k .u) (a .mask) (w .0 .left)) (rw (bit-even (k .u) (a .mask) (w .0 .left)))))
     (c .if1 .came)
 
--- src/admits.rt:10:1
 same-length : tie.Need-same-length Inv-loop μ-loop
 same-length c = c .before .loop .inv .as-long
 
--- src/admits.rt:10:1
 returns : tie.Need-returns Inv-loop μ-loop
 unfolding handOver
 returns c =

@@ -1,38 +1,20 @@
 -- `array::performs::perform` meets its contract: the step's kind picks what is done.
 -- Assumes nothing.
-use mathlib.Core.Path.{refl, sym, ap, _∙_}
-use native.Mathlib.Omega.{arith}
-use borrow.Author.Needs.{needs}
+use mathlib.Core.Path.{refl, ap}
 use denote.Ref.{now}
 use Rattle.graph.specs.Asked.{actionStep}
 use Rattle.array.specs.Stepping.{workAfter, imageAfter}
-use Rattle.array.proofs.Performed.{performing-bounds}
-use Rattle.array.proofs.Within.{told-within, as-told}
+use Rattle.array.proofs.Performed.{as-told}
+use borrow.Author.Needs.{needs}
 use Rattle.array.proofs.performs.perform.Statement.{statement}
 use Rattle.array.proofs.performs.perform.Tie as tie
 
-sub-step-of : tie.Need-sub-step-of
-sub-step-of c =
-    let s = c .before .before .before in
-    let a = s .args in
-    omega (arith, performing-bounds (a .state) (a .i) (a .r) (now (a .work)) (now (a .image)) (s .pre))
-
-step-of-requires : tie.Need-step-of-requires
-step-of-requires c κs = search needs
-
-enum-known-p : tie.Need-enum-known-p
-enum-known-p c = search needs
+enum-known-action : tie.Need-enum-known-action
+enum-known-action c = search needs
 
 read-requires : tie.Need-read-requires
 unfolding actionStep
-read-requires c κs =
-    let s = c .before .before .before .before .before .before .before .before .before in
-    let a = s .args in
-    let told = sym (c .before .before .before .before .before .step-of .ensures) ∙ ap actionStep (c .before .before .before .p .given .1) in (
-      s .pre,
-      told-within (a .state .cards) (a .k) _
-          (omega (arith, performing-bounds (a .state) (a .i) (a .r) (now (a .work)) (now (a .image)) (s .pre))) told,
-    )
+read-requires c κs = let s = c .before .before .before .before .before .before .before in (s .pre .0, rw (c .before .before .before .action .given .1) at (s .pre .1))
 
 enum-told : tie.Need-enum-told
 enum-told c = search needs
@@ -40,19 +22,12 @@ enum-told c = search needs
 sum-requires : tie.Need-sum-requires
 sum-requires c κs = search needs
 
-enum-known-p-2 : tie.Need-enum-known-p-2
-enum-known-p-2 c = search needs
+enum-known-action-2 : tie.Need-enum-known-action-2
+enum-known-action-2 c = search needs
 
 write-requires : tie.Need-write-requires
 unfolding actionStep
-write-requires c κs =
-    let s = c .before .before .before .before .before .before .before .before .before in
-    let a = s .args in
-    let told = sym (c .before .before .before .before .before .step-of .ensures) ∙ ap actionStep (c .before .before .before .p2 .given .1) in (
-      s .pre,
-      told-within (a .state .cards) (a .k) _
-          (omega (arith, performing-bounds (a .state) (a .i) (a .r) (now (a .work)) (now (a .image)) (s .pre))) told,
-    )
+write-requires c κs = let s = c .before .before .before .before .before .before .before in (s .pre .0, rw (c .before .before .before .action2 .given .1) at (s .pre .1))
 
 enum-told-2 : tie.Need-enum-told-2
 enum-told-2 c = search needs
@@ -65,10 +40,7 @@ same-length-2 c = search needs
 
 returns : tie.Need-returns
 unfolding actionStep workAfter imageAfter
-returns c =
-    let a = c .before .before .before .before .before .before .before .before .before .before .before .before .args in
-    as-told (a .state) (a .i) (a .r) (now (a .work)) (now (a .image)) _ _ _ _
-    (sym (c .before .before .before .before .before .before .before .before .step-of .ensures) ∙ ap actionStep (c .before .before .before .before .before .before .p .given .1)) (c .before .before .read .ensures) refl
+returns c = let a = c .before .before .before .before .before .before .before .before .before .before .args in as-told (a .state) (a .i) (a .r) (now (a .work)) (now (a .image)) _ _ _ _ (ap actionStep (c .before .before .before .before .before .before .action .given .1)) (c .before .before .read .ensures) refl
 
 same-length-3 : tie.Need-same-length-3
 same-length-3 c = search needs
@@ -78,10 +50,7 @@ same-length-4 c = search needs
 
 returns-2 : tie.Need-returns-2
 unfolding actionStep workAfter imageAfter
-returns-2 c =
-    let a = c .before .before .before .before .before .before .before .before .before .before .before .args in
-    as-told (a .state) (a .i) (a .r) (now (a .work)) (now (a .image)) _ _ _ _
-    (sym (c .before .before .before .before .before .before .before .step-of .ensures) ∙ ap actionStep (c .before .before .before .before .before .enum-told .given .1)) (c .before .before .sum .ensures) refl
+returns-2 c = let a = c .before .before .before .before .before .before .before .before .before .args in as-told (a .state) (a .i) (a .r) (now (a .work)) (now (a .image)) _ _ _ _ (ap actionStep (c .before .before .before .before .before .enum-told .given .1)) (c .before .before .sum .ensures) refl
 
 same-length-5 : tie.Need-same-length-5
 same-length-5 c = search needs
@@ -91,29 +60,21 @@ same-length-6 c = search needs
 
 returns-3 : tie.Need-returns-3
 unfolding actionStep workAfter imageAfter
-returns-3 c =
-    let a = c .before .before .before .before .before .before .before .before .before .before .before .before .args in
-    as-told (a .state) (a .i) (a .r) (now (a .work)) (now (a .image)) _ _ _ _
-    (sym (c .before .before .before .before .before .before .before .before .step-of .ensures) ∙ ap actionStep (c .before .before .before .before .before .before .p2 .given .1)) refl (c .before .before .write .ensures)
+returns-3 c = let a = c .before .before .before .before .before .before .before .before .before .before .args in as-told (a .state) (a .i) (a .r) (now (a .work)) (now (a .image)) _ _ _ _ (ap actionStep (c .before .before .before .before .before .before .action2 .given .1)) refl (c .before .before .write .ensures)
 
 returns-4 : tie.Need-returns-4
 unfolding actionStep workAfter imageAfter
-returns-4 c =
-    let a = c .before .before .before .before .before .before .args in
-    as-told (a .state) (a .i) (a .r) (now (a .work)) (now (a .image)) _ _ _ _
-    (sym (c .before .before .step-of .ensures) ∙ ap actionStep (c .enum-told2 .given .1)) refl refl
+returns-4 c = let a = c .before .before .before .before .args in as-told (a .state) (a .i) (a .r) (now (a .work)) (now (a .image)) _ _ _ _ (ap actionStep (c .enum-told2 .given .1)) refl refl
 
 pub perform-spec : {M : Type 1} → statement M
 perform-spec =
     tie.close
     (tie.spec
-    sub-step-of
-    step-of-requires
-    enum-known-p
+    enum-known-action
     read-requires
     enum-told
     sum-requires
-    enum-known-p-2
+    enum-known-action-2
     write-requires
     enum-told-2
     same-length

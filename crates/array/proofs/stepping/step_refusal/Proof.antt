@@ -1,72 +1,96 @@
--- `array::stepping::step_refusal` meets its contract: each `return` is the first row whose test holds; none refuses a record astray, since no sound table has one.
+-- `array::stepping::step_refusal` meets its contract: each `return` is the first row whose test holds.
 -- Assumes nothing.
-use mathlib.Core.Path.{sym, _∙_}
-use native.Mathlib.Omega.{arith}
-use borrow.Author.Needs.{needs}
+use mathlib.Core.Bool.{Bool, true, false, _&&_, _||_}
+use mathlib.Core.Path.{_≡_, sym, ap₂, _∙_}
+use borrow.Author.Tests.{eq-eqb, ne-eqb, le-leb, lt-leb}
 use denote.Ref.{now}
-use lib.ListN.{length}
+use Rattle.terms.specs.Reply.{firstRow}
+use Rattle.geometry.specs.Limits.{beyondState}
+use Rattle.geometry.specs.Store.{imageWrong, workWrong}
 use Rattle.geometry.proofs.Flags.{fails, holds}
-use Rattle.array.specs.Premises.{Lengths}
-use Rattle.array.proofs.Given.{never, performs}
-use Rattle.array.proofs.Own.{step-first, step-range, step-phase, step-order, step-granted}
-use Rattle.array.proofs.Told.{lent-fine, told-record}
+use Rattle.record.specs.Asked.{readyIn}
+use Rattle.record.specs.Sound.{soundRecord}
+use Rattle.array.specs.Lent.{tableWrong, lentRows}
+use Rattle.array.specs.Refusals.{stepRefusal, stepRows, stepReady}
+use Rattle.array.proofs.Accepted.{legal-state, ready-is}
+use Rattle.array.proofs.LentRows.{beyond-refuses, lent-refuses, lent-passes}
+use borrow.Author.Needs.{needs}
 use Rattle.array.proofs.stepping.step_refusal.Statement.{statement}
 use Rattle.array.proofs.stepping.step_refusal.Tie as tie
 
-lent-refusal-requires : tie.Need-lent-refusal-requires
-lent-refusal-requires c κs = search needs
+beyond-requires : tie.Need-beyond-requires
+beyond-requires c κs = search needs
 
 returns : tie.Need-returns
-returns c =
-    let a = c .before .before .before .before .args in
-    (λ t m e. step-first (a .state) t (now (a .work)) (now (a .image)) (a .i) (a .k) _ (c .before .lent-refusal .ensures .0 t m) (c .if1 .taken), never (c .if1 .taken))
+unfolding stepRefusal
+returns c = beyond-refuses _ _ _ _ (sym (c .before .beyond .ensures) ∙ c .if1 .taken)
 
--- rows 1 to 4 are passed
-lengths : (c : tie.Else1) → let a = c .before .before .before .before .args in Lengths (a .state) (a .marks .len) (length (now (a .work))) (length (now (a .image)))
-lengths c = c .before .lent-refusal .ensures .1 (c .if1 .left)
+-- the limits hold
+inside : (c : tie.Else1) → beyondState (c .before .before .before .before .args .state) ≡ false
+inside c = sym (c .before .beyond .ensures) ∙ c .if1 .left
+
+lent-wrong-requires : tie.Need-lent-wrong-requires
+lent-wrong-requires c κs = legal-state (c .before .before .before .before .args .state) (inside c)
+
+sound-with-requires : tie.Need-sound-with-requires
+sound-with-requires c κs = legal-state (c .before .before .before .before .before .args .state) (inside (c .before))
+
+lent-refusal-requires : tie.Need-lent-refusal-requires
+lent-refusal-requires c κs = inside (c .before .before)
+
+-- rows 1 to 4; where none of them refuses the call's own are left
+lent : (c : tie.After-lent-refusal) → let a = c .before .before .before .before .before .before .before .args in
+    c .lent-refusal .result
+    ≡ firstRow
+    (lentRows (a .state) (imageWrong (a .state) (now (a .image)) || tableWrong (a .state) (a .survey .len) || workWrong (a .state) (now (a .work)))
+    (a .survey .sound && soundRecord (a .state) (a .r)))
+lent c =
+    let a = c .before .before .before .before .before .before .before .args in
+    c .lent-refusal .ensures
+    ∙ ap₂ (λ (w s : Bool). firstRow (lentRows (a .state) w s)) (c .before .before .lent-wrong .ensures) (c .before .sound-with .ensures)
+
+own : (c : tie.Else2) → let a = c .before .before .before .before .before .before .before .before .args in
+    stepRefusal (a .state) (a .survey) (a .r) (now (a .work)) (now (a .image)) (a .i) (a .k) ≡ firstRow (stepRows (a .state) (a .r) (a .i) (a .k))
+unfolding stepRefusal
+own c = lent-passes _ _ _ _ (lent (c .before)) (c .if2 .left) _
 
 returns-2 : tie.Need-returns-2
-returns-2 c =
-    let a = c .before .before .before .before .before .before .args in
-    (λ t m e. step-range (a .state) t (now (a .work)) (now (a .image)) (a .i) (a .k) _ (c .before .before .before .lent-refusal .ensures .0 t m) (c .before .before .if1 .left) (c .if2 .taken), never (λ q. omega arith))
+unfolding stepRefusal
+returns-2 c = lent-refuses _ _ _ _ (lent (c .before)) _ (c .if2 .taken)
 
 returns-3 : tie.Need-returns-3
-returns-3 c =
-    let a = c .before .before .before .before .before .before .before .before .args in
-    (λ t m e. step-phase (a .state) t (now (a .work)) (now (a .image)) (a .i) (a .k) _ (c .before .before .before .before .before .lent-refusal .ensures .0 t m) (c .before .before .before .before .if1 .left) (c .before .before .if2 .left) (a .r) e (c .if3 .taken), never (λ q. omega arith))
-
-astray-requires : tie.Need-astray-requires
-astray-requires c κs = lengths (c .before .before .before .before) .limits
+unfolding stepRows firstRow
+returns-3 c = sym (own (c .before .before) ∙ rw (le-leb _ _ (c .if3 .taken)))
 
 returns-4 : tie.Need-returns-4
-returns-4 c =
-    let a = c .before .before .before .before .before .before .before .before .before .before .args in
-    (λ t m e. told-record (a .state) t (lent-fine (a .state) t (length (now (a .work))) (length (now (a .image))) (sym (c .before .before .before .before .before .before .before .lent-refusal .ensures .0 t m) ∙ c .before .before .before .before .before .before .if1 .left)) (a .r) (a .i) e (λ q. omega (arith, c .before .before .if3 .left)) (sym (c .before .astray .ensures) ∙ c .if4 .taken), never (λ q. omega arith))
+unfolding stepRows firstRow
+returns-4 c = sym (own (c .before .before .before .before) ∙ rw (lt-leb _ _ (c .before .before .if3 .left), ne-eqb _ _ (c .if4 .taken)))
 
 is-ready-requires : tie.Need-is-ready-requires
 is-ready-requires c κs = search needs
 
+is-ready : (c : tie.After-is-ready) (b : Bool) → let a = c .before .before .before .before .before .before .before .before .before .before .before .before .before .args in readyIn (a .state) (a .r) (a .k) ≡ b → stepReady (a .state) (a .r) (a .k) ≡ b
+is-ready c b e = let a = c .before .before .before .before .before .before .before .before .before .before .before .before .before .args in sym (ready-is (a .state) (a .r) (a .k) (inside (c .before .before .before .before .before .before .before .before .before))) ∙ e
+
 returns-5 : tie.Need-returns-5
-returns-5 c =
-    let a = c .before .before .before .before .before .before .before .before .before .before .before .before .args in
-    (λ t m e. step-order (a .state) t (now (a .work)) (now (a .image)) (a .i) (a .k) _ (c .before .before .before .before .before .before .before .before .before .lent-refusal .ensures .0 t m) (c .before .before .before .before .before .before .before .before .if1 .left) (c .before .before .before .before .before .before .if2 .left) (a .r) e (c .before .before .before .before .if3 .left) (fails (c .before .is-ready .ensures) (c .if5 .taken)), never (λ q. omega arith))
+unfolding stepRows firstRow
+returns-5 c = sym (own (c .before .before .before .before .before .before) ∙ rw (lt-leb _ _ (c .before .before .before .before .if3 .left), eq-eqb _ _ (c .before .before .if4 .left), is-ready (c .before) false (fails (c .before .is-ready .ensures) (c .if5 .taken))))
 
 returns-6 : tie.Need-returns-6
-returns-6 c =
-    let a = c .before .before .before .before .before .before .before .before .before .before .before .before .args in (
-      λ t m e. step-granted (a .state) t (now (a .work)) (now (a .image)) (a .i) (a .k) _ (c .before .before .before .before .before .before .before .before .before .lent-refusal .ensures .0 t m) (c .before .before .before .before .before .before .before .before .if1 .left) (c .before .before .before .before .before .before .if2 .left) (a .r) e (c .before .before .before .before .if3 .left) (holds (c .before .is-ready .ensures) (c .if5 .left)),
-      λ z. performs (a .state) (a .i) (a .r) (a .marks .len) (now (a .work)) (now (a .image)) (lengths (c .before .before .before .before .before .before .before .before)) (c .before .before .before .before .before .before .if2 .left) (sym (c .before .before .before .astray .ensures) ∙ c .before .before .if4 .left),
-    )
+unfolding stepRows firstRow
+returns-6 c = sym (own (c .before .before .before .before .before .before) ∙ rw (lt-leb _ _ (c .before .before .before .before .if3 .left), eq-eqb _ _ (c .before .before .if4 .left), is-ready (c .before) true (holds (c .before .is-ready .ensures) (c .if5 .left))))
 
 pub step-refusal-spec : {M : Type 1} → statement M
 step-refusal-spec =
     tie.close
     (tie.spec
-    lent-refusal-requires
+    beyond-requires
     returns
+    lent-wrong-requires
+    sound-with-requires
+    lent-refusal-requires
     returns-2
     returns-3
-    astray-requires
     returns-4
     is-ready-requires
     returns-5

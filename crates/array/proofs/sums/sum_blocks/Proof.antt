@@ -11,7 +11,7 @@ use Rattle.block.specs.Blocks.{carried, summed, zeros}
 use Rattle.block.proofs.Blocks.{length-summed}
 use Rattle.geometry.specs.Store.{writeAt, readAt}
 use Rattle.geometry.proofs.Apart.{read-inside, write-inside}
-use Rattle.geometry.proofs.Asked.{BoundsOf, Inside, writeIn-is, readIn-is}
+use Rattle.geometry.proofs.Asked.{BoundsOf}
 use Rattle.geometry.proofs.Bounds.{legal-bounds}
 use Rattle.array.specs.Sums.{takenIf, blockSum}
 use Rattle.array.proofs.Performed.{read-row, write-row}
@@ -21,21 +21,18 @@ use Rattle.array.proofs.sums.sum_blocks.Tie as tie
 bounds : (s : tie.Start) → BoundsOf (s .args .state)
 bounds s = legal-bounds _ _ _ _ (s .pre .0)
 
-inside : (s : tie.Start) → Inside (s .args .state) (s .args .«record») (s .args .state .records) 0 (s .args .state .cards)
-inside s = record { bounds = bounds s; first = s .pre .1; second = omega (arith, bounds s) }
-
 read-at-requires : tie.Need-read-at-requires
-read-at-requires c κs = search needs
+read-at-requires c κs = let s = c .before in (s .pre .0, s .pre .1, omega (arith, bounds s))
 
 write-at-requires : tie.Need-write-at-requires
-write-at-requires c κs = search needs
+write-at-requires c κs = let s = c .before .before in (s .pre .0, s .pre .1, omega (arith, bounds s))
 
 -- where the record's blocks start
 read-is : (c : tie.After-read-at) → let a = c .before .before .args in c .read-at .result ≡ readAt (a .state .cards) (a .state .block) (a .«record») 0
-read-is c = c .read-at .ensures ∙ readIn-is _ _ _ (inside (c .before .before))
+read-is c = c .read-at .ensures
 
 write-is : (c : tie.After-write-at) → let a = c .before .before .before .args in c .write-at .result ≡ writeAt (a .state .cards) (a .state .block) (a .«record») 0
-write-is c = c .write-at .ensures ∙ writeIn-is _ _ _ (inside (c .before .before .before))
+write-is c = c .write-at .ensures
 
 -- a row of blocks has room where its last has
 row-room : (N B first at bytes : ℕ) → 1 ≤ N → first + (N - 1) * B ≡ at → at + B ≤ bytes → first + N * B ≤ bytes
