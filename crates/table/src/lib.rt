@@ -1,14 +1,11 @@
-// The table of request records as the caller lends it: thin functions that count it, read one record, mark them, replace one and free all.
+// The table of request records as the caller lends it: thin functions that count it, read one record, look at all, replace one and free all.
 // Assumes nothing.
 ghost use mathlib.Core.Path.{_≡_};
 ghost use lib.ListN.{length, getD, set, replicate};
 ghost use mathlib.Core.Bool.{cond};
 ghost use Rattle.record.specs.Life.{free};
-ghost use Rattle.record.specs.Marks.{markIn, marksOf};
 ghost use Rattle.record.specs.Survey.{surveyOf};
-use geometry::NO_STRIPE;
 use geometry::State;
-use record::Marks;
 use record::Record;
 use record::Survey;
 
@@ -36,35 +33,6 @@ pub fn replace(table: &mut [Record], i: u64, r: Record)
     if i < table.len() as u64 {
         table[i as usize] = r;
     }
-}
-
-// The mark of the record at i; past the end, a number that is no stripe's.
-pub fn mark(table: &[Record], i: u64, state: State) -> u64
-    ensures { λ r. ⌜ r ≡ markIn state (now (table .entry)) i ⌝ }
-{
-    if i < table.len() as u64 {
-        return table[i as usize].mark(state);
-    }
-    NO_STRIPE
-}
-
-// The marks of the table: K is at most 8, and a table of another length is refused by its length alone.
-pub fn marked(table: &[Record], state: State) -> Marks
-    ensures { λ r. ⌜ r ≡ marksOf state (now (table .entry)) ⌝ }
-{
-    let n = count(table);
-    let mut top = n;
-    if 8 < n {
-        top = 8;
-    }
-    let mut marks = [NO_STRIPE; 8];
-    let mut i: u64 = 0;
-    while i < top {
-        let m = mark(table, i, state);
-        marks[i as usize] = m;
-        i += 1;
-    }
-    Marks { marks, len: n }
 }
 
 // What one look at the table finds.
