@@ -1,5 +1,5 @@
 -- What the walks of the calls share.
 pub mod Answers
 pub mod States
-pub mod Bridge
+pub mod BySurvey
 pub mod Outcomes

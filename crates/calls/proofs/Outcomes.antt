@@ -19,11 +19,11 @@ use Rattle.graph.specs.declared.steps.Action.the-variants as action
 use Rattle.parity.specs.Scan.{Named, reply, scanOf}
 use Rattle.parity.specs.declared.Scan.{Scan}
 use Rattle.record.specs.declared.Record.{Record}
-use Rattle.array.specs.Admission.{Admission}
-use Rattle.array.specs.Collection.{Collection}
-use Rattle.array.specs.Opening.{Opening}
+use Rattle.array.specs.Admission.{AdmissionBy, Admission}
+use Rattle.array.specs.Collection.{CollectionBy, Collection}
+use Rattle.array.specs.Opening.{OpeningBy, Opening}
 use Rattle.array.specs.Outcomes.{OpeningIs, AdmissionIs, SteppingIs, CollectionIs}
-use Rattle.array.specs.Stepping.{Stepping}
+use Rattle.array.specs.Stepping.{SteppingBy, Stepping}
 use Rattle.array.specs.declared.answers.Admission as by-admit
 use Rattle.array.specs.declared.answers.Admitted.{Admitted}
 use Rattle.array.specs.declared.answers.Collected.{Collected}
@@ -62,9 +62,9 @@ module _ {r : Reply} {a b : Scan} where
   pub scan-one : (reply a ≡ r) × Named a → (reply b ≡ r) × Named b → a ≡ b
   scan-one p q = sym (p .1) ∙ ap scanOf (p .0 ∙ sym (q .0)) ∙ q .1
 
--- ---- the calls over a table by value
+-- ---- the calls by a survey, and over a table by value
 
-module _ {d : Opening} {o r : by-open.Opening} where
+module _ {d : OpeningBy} {o r : by-open.Opening} where
   pub open-value-one : OpeningIs d o → OpeningIs d r → o ≡ r
   open-value-one p q =
       let made : Opened → State → by-open.Opening = λ a s. record { answer = a; state = s } in
@@ -75,16 +75,16 @@ module _ {A : Type 0} {D : Type 0} (made : A → ℕ → Record → D) {a b : A}
   three : a ≡ b → i ≡ j → x ≡ y → made a i x ≡ made b j y
   three p q r = cc
 
-module _ {d : Admission} {table : List Record} {o r : by-admit.Admission} {v w : List ℕ} where
-  pub admit-value-one : AdmissionIs d table o v → AdmissionIs d table r w → (o ≡ r) × (v ≡ w)
+module _ {d : AdmissionBy} {o r : by-admit.Admission} {v w : List ℕ} where
+  pub admit-value-one : AdmissionIs d o v → AdmissionIs d r w → (o ≡ r) × (v ≡ w)
   admit-value-one p q = (three (λ a i x. record { answer = a; place = i; «record» = x }) (cc) (cc) (cc), cc)
 
-module _ {d : Stepping} {table : List Record} {i : ℕ} {o r : by-step.Stepping} {v w m n : List ℕ} where
-  pub step-value-one : SteppingIs d table i o v m → SteppingIs d table i r w n → (o ≡ r) × (v ≡ w) × (m ≡ n)
+module _ {d : SteppingBy} {o r : by-step.Stepping} {v w m n : List ℕ} where
+  pub step-value-one : SteppingIs d o v m → SteppingIs d r w n → (o ≡ r) × (v ≡ w) × (m ≡ n)
   step-value-one p q = (three (λ a i x. record { answer = a; place = i; «record» = x }) (cc) (cc) (cc), cc, cc)
 
-module _ {d : Collection} {table : List Record} {i : ℕ} {o r : by-collect.Collection} {m n : List ℕ} where
-  pub collect-value-one : CollectionIs d table i o m → CollectionIs d table i r n → (o ≡ r) × (m ≡ n)
+module _ {d : CollectionBy} {o r : by-collect.Collection} {m n : List ℕ} where
+  pub collect-value-one : CollectionIs d o m → CollectionIs d r n → (o ≡ r) × (m ≡ n)
   collect-value-one p q = (three (λ a i x. record { answer = a; place = i; «record» = x }) (cc) (cc) (cc), cc)
 
 -- ---- placement, and what a step does

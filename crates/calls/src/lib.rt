@@ -24,8 +24,8 @@ use record::Record;
 use table::at;
 use table::count;
 use table::freed;
-use table::marked;
 use table::replace;
+use table::surveyed;
 
 // Whether an opening is accepted.
 pub fn is_open(answer: Opened) -> bool
@@ -49,7 +49,7 @@ pub fn open(
     ensures { λ r. ⌜ OpeningLent (opening geometry out (now (table .entry)) (now (work .entry)) (now (image .entry))) (r .answer) (r .state) (now (table .exit)) ⌝ }
 {
     let len = count(table);
-    let made = array::open_sized(geometry, out, len, work, image);
+    let made = array::open_by(geometry, out, len, work, image);
     freed(table, is_open(made.answer));
     made
 }
@@ -67,8 +67,8 @@ pub fn admit(
 ) -> Admitted
     ensures { λ r. ⌜ AdmissionLent (admission state (now (table .entry)) (now (work .entry)) (now (image .entry)) write stripe mask (now (payload .entry))) r (now (table .exit)) (now (work .exit)) ⌝ }
 {
-    let marks = marked(table, state);
-    let made = array::admit_marked(state, marks, work, image, write, stripe, mask, payload);
+    let survey = surveyed(table, state);
+    let made = array::admit_by(state, survey, work, image, write, stripe, mask, payload);
     replace(table, made.place, made.record);
     made.answer
 }
@@ -84,9 +84,9 @@ pub fn step(
 ) -> Stepped
     ensures { λ r. ⌜ SteppingLent (stepping state (now (table .entry)) (now (work .entry)) (now (image .entry)) i k) r (now (table .exit)) (now (work .exit)) (now (image .exit)) ⌝ }
 {
-    let marks = marked(table, state);
+    let survey = surveyed(table, state);
     let r = at(table, i);
-    let made = array::step_marked(state, marks, r, work, image, i, k);
+    let made = array::step_by(state, survey, r, work, image, i, k);
     replace(table, made.place, made.record);
     made.answer
 }
@@ -111,9 +111,9 @@ pub fn collect(
 ) -> Collected
     ensures { λ r. ⌜ CollectionLent (collection state (now (table .entry)) (now (work .entry)) i (now (result .entry))) r (now (table .exit)) (now (result .exit)) ⌝ }
 {
-    let marks = marked(table, state);
+    let survey = surveyed(table, state);
     let r = at(table, i);
-    let made = array::collect_marked(state, marks, r, work, i, result);
+    let made = array::collect_by(state, survey, r, work, i, result);
     replace(table, made.place, made.record);
     made.answer
 }
@@ -122,6 +122,6 @@ pub fn collect(
 pub fn scan(state: State, table: &[Record], image: &[u8]) -> Scan
     ensures { λ r. ⌜ (reply r ≡ scanReply state (now (table .entry)) (now (image .entry))) × Named r ⌝ }
 {
-    let marks = marked(table, state);
-    array::scan_marked(state, marks, image)
+    let survey = surveyed(table, state);
+    array::scan_by(state, survey, image)
 }

@@ -2,7 +2,7 @@
 -- most 1,024 and a byte at most 512.
 -- Assumes nothing.
 use Prim.Native.Nat.{ℕ, _+_, _*_, _≤_}
-use mathlib.Core.Bool.{Bool, true, false, cond, not, _&&_, _||_}
+use mathlib.Core.Bool.{Bool, true, false, cond, _&&_, _||_}
 use mathlib.Core.List.{List}
 use mathlib.Core.Path.{_≡_, refl}
 use native.Mathlib.Omega.{arith}
@@ -11,8 +11,8 @@ use lib.ListN.{getD}
 use borrow.Author.Tests.{eqb-true, ne-eqb, leb-true, not-false}
 use Rattle.terms.specs.Lists.{every}
 use Rattle.terms.specs.Reply.{Reply, accepted, refused, onAccept}
-use Rattle.terms.proofs.Lists.{every-elim}
-use Rattle.terms.proofs.Rows.{and-left, and-right, or-false-left}
+use Rattle.terms.proofs.Refusals.{Failed, giving, zero-failed, failed-first, failed-second}
+use Rattle.terms.proofs.Rows.{and-right}
 use Rattle.geometry.specs.Limits.{beyondState}
 use Rattle.geometry.specs.Report.{reporting, reportRefusal}
 use Rattle.geometry.specs.Store.{workWrong}
@@ -25,16 +25,19 @@ use Rattle.graph.specs.Steps.{stepOf}
 use Rattle.parity.specs.Scan.{idleScanReply, nothingHeld}
 use Rattle.parity.proofs.Small.{Small, firstRow-le, disagreement-small, scan-small, idle-small}
 use Rattle.record.specs.Life.{free, isFinished, isWrite, unitsOf, missingIn, afresh}
-use Rattle.record.specs.Sound.{held, sound, soundRecord, apart, legalRecord, legalChosen, rightGraph, rightSteps, rightCount, lacksNone}
+use Rattle.record.specs.Sound.{soundRecord, legalRecord, legalChosen, rightGraph, rightSteps, rightCount, lacksNone}
+use Rattle.record.specs.Survey.{surveyOf, heldIn}
 use Rattle.record.specs.declared.Record.{Record}
-use Rattle.array.specs.Admission.{admission}
-use Rattle.array.specs.Collection.{collection, collecting}
-use Rattle.array.specs.Lent.{tableWrong}
-use Rattle.array.specs.Opening.{opening}
-use Rattle.array.specs.Refusals.{openRefusal, admitRefusal, stepRefusal, collectRefusal, scanRefusal}
-use Rattle.array.specs.Scan.{scanReply}
-use Rattle.array.specs.Stepping.{Stepping, stepping, accepting, meetsOut}
-use Rattle.array.proofs.Passed.{passed, table-length, admit-passed, collect-passed}
+use Rattle.record.specs.declared.Survey.{Survey}
+use Rattle.array.specs.Admission.{admissionBy, admission}
+use Rattle.array.specs.Collection.{collectionBy, collection}
+use Rattle.array.specs.Lent.{tableWrong, lentRows}
+use Rattle.array.specs.Opening.{openingBy, opening}
+use Rattle.array.specs.Refusals.{openRefusal, admitRows, admitRefusal, stepRows, stepRefusal, collectRows, collectRefusal, scanRows, scanRefusal}
+use Rattle.array.specs.Scan.{scanReplyBy, scanReply}
+use Rattle.array.specs.Stepping.{SteppingBy, steppingBy, stepping, accepting, meetsOut}
+use Rattle.array.proofs.Admissions.{admitNumber, admit-passed}
+use Rattle.array.proofs.Lent.{free-seen, passed-rows}
 use Rattle.recorder.specs.Packing.{Roomy}
 
 -- small values have room
@@ -67,29 +70,20 @@ finished-count st r e f =
     let most : (lacksNone st r && leb (r .count) (2 * unitsOf st + 3)) ≡ true = rw (ne-eqb (r .phase) 1 (λ z. omega arith), f) at counted in
     leb-true (r .count) (2 * unitsOf st + 3) (and-right (lacksNone st r) (leb (r .count) (2 * unitsOf st + 3)) most)
 
--- no number of a refusal is above 13
-step-number : (st : State) (table : List Record) (work image : List ℕ) (i k : ℕ) → stepRefusal st table work image i k ≤ 13
-unfolding stepRefusal every
-step-number st table work image i k = firstRow-le 13 _ refl
-
-collect-number : (st : State) (table : List Record) (work : List ℕ) (i : ℕ) (result : List ℕ) → collectRefusal st table work i result ≤ 13
-unfolding collectRefusal every
-collect-number st table work i result = firstRow-le 13 _ refl
-
 pub idle-room : (st : State) (image : List ℕ) → Roomy (idleScanReply st image)
 idle-room st image = roomy _ (idle-small st image)
 
 pub scan-room : (st : State) (table : List Record) (image : List ℕ) → Roomy (scanReply st table image)
-unfolding scanReply scanRefusal every
+unfolding scanReply scanReplyBy scanRefusal lentRows scanRows every
 scan-room st table image =
     roomy _
     (scan-small (beyondState st) _ _ refl
     (λ e.
     let limits = state-bounds st e in
-    disagreement-small (st .cards) (st .stripes) (st .block) image (held table) (limits .stripes-high) (limits .block-high)))
+    disagreement-small (st .cards) (st .stripes) (st .block) image (heldIn (surveyOf st table)) (limits .stripes-high) (limits .block-high)))
 
 pub open-room : (g : Geometry) (out : ℕ) (table : List Record) (work image : List ℕ) → Roomy (opening g out table work image .reply)
-unfolding opening openRefusal every
+unfolding opening openingBy openRefusal every
 open-room g out table work image =
     roomy _
     (scan-small _ _ _ refl
@@ -102,46 +96,53 @@ unfolding reporting reportRefusal every
 report-room st c = roomy _ (one-small (reportRefusal st c) 0 (firstRow-le 13 _ refl) (λ _. omega arith))
 
 pub admit-room : (st : State) (table : List Record) (work image : List ℕ) (write : Bool) (s mask : ℕ) (payload : List ℕ) → Roomy (admission st table work image write s mask payload .reply)
-unfolding admission admitRefusal every
+unfolding admission admissionBy admitRefusal lentRows admitRows every
 admit-room st table work image write s mask payload =
     roomy _
-    (one-small (admitRefusal st table work image write s mask payload) _ (firstRow-le 13 _ refl)
+    (one-small (admitNumber st table work image write s mask payload) _ (firstRow-le 13 _ refl)
     (λ z.
     let a = admit-passed st table work image write s mask payload z in
-    omega (arith, a .some-free, a .right .table-right, state-bounds st (a .right .limits))))
+    omega (arith, a .some-free, a .right .table-right, free-seen st table (a .right .limits) (a .right .table-right), state-bounds st (a .right .limits))))
 
 -- a done step answers 0, one that meets the card that is out the new graph
-step-cases : (a b : Bool) (x y z : Stepping) → Small (x .reply) → Small (y .reply) → Small (z .reply) → Small (cond {A = Stepping} a (cond b x y) z .reply)
+step-cases : (a b : Bool) (x y z : SteppingBy) → Small (x .reply) → Small (y .reply) → Small (z .reply) → Small (cond {A = SteppingBy} a (cond b x y) z .reply)
 step-cases true true x y z p q r = p
 step-cases true false x y z p q r = q
 step-cases false b x y z p q r = r
 
+step-number : (st : State) (v : Survey) (r : Record) (work image : List ℕ) (i k : ℕ) → stepRefusal st v r work image i k ≤ 13
+unfolding stepRefusal lentRows stepRows every
+step-number st v r work image i k = firstRow-le 13 _ refl
+
 pub step-room : (st : State) (table : List Record) (work image : List ℕ) (i k : ℕ) → Roomy (stepping st table work image i k .reply)
-unfolding stepping accepting afresh
+unfolding stepping steppingBy accepting afresh
 step-room st table work image i k =
     let r = getD table i free in
     roomy _
-    (step-cases (eqb (stepRefusal st table work image i k) 0) (meetsOut (missingIn st (r .stripe)) (stepOf (unitsOf st) k)) _ _ _
+    (step-cases (eqb (stepRefusal st (surveyOf st table) r work image i k) 0) (meetsOut (missingIn st (r .stripe)) (stepOf (unitsOf st) k)) _ _ _
     (record { number = omega arith; first = omega (arith, choose-le (unitsOf st) (isWrite r) (r .mask) (missingIn st (r .stripe))); second = omega arith })
     (record { number = omega arith; first = omega arith; second = omega arith })
-    (record { number = step-number st table work image i k; first = omega arith; second = omega arith }))
+    (record { number = step-number st (surveyOf st table) r work image i k; first = omega arith; second = omega arith }))
 
--- the record that an accepted collect takes is sound
-collected-count : (st : State) (table : List Record) (work : List ℕ) (i : ℕ) (result : List ℕ) → collectRefusal st table work i result ≡ 0 → getD table i free .count ≤ 17
-unfolding collectRefusal sound
-collected-count st table work i result z =
-    let a = passed (beyondState st) 0 _ z in
-    let b = passed (tableWrong st table || workWrong st work) 1 _ (a .1) in
-    let c = passed (not (sound st table)) 2 _ (b .1) in
-    let f = collect-passed st table work i result z in
-    let long = table-length st table (or-false-left (tableWrong st table) (workWrong st work) (b .0)) in
-    let all = and-left (every (soundRecord st) table) (apart table) (not-false _ (c .0)) in
-    let count = finished-count st (getD table i free) (every-elim (soundRecord st) table i free all (omega (arith, f .record-below))) (f .is-finished) in
-    omega (arith, count, state-bounds st (a .0))
+-- the record that an accepted collect takes is sound, and counts at most 2n+3
+module _ (st : State) (v : Survey) (r : Record) (work : List ℕ) (i : ℕ) (result : List ℕ) where
+  collect-number : collectRefusal st v r work i result ≤ 13
+  unfolding collectRefusal lentRows collectRows every
+  collect-number = firstRow-le 13 _ refl
+
+  collected-count : collectRefusal st v r work i result ≡ 0 → r .count ≤ 17
+  unfolding collectRefusal giving every lentRows collectRows Failed
+  collected-count z =
+      let failed = zero-failed _ refl z in
+      let a = passed-rows st _ _ (failed-first (lentRows st (tableWrong st (v .len) || workWrong st work) (v .sound && soundRecord st r)) (collectRows st r i result) failed) in
+      let own = failed-second (lentRows st (tableWrong st (v .len) || workWrong st work) (v .sound && soundRecord st r)) (collectRows st r i result) failed in
+      let count = finished-count st r (and-right (v .sound) (soundRecord st r) (a .is-fine)) (not-false _ (own .1 .0)) in
+      omega (arith, count, state-bounds st (a .limits))
 
 pub collect-room : (st : State) (table : List Record) (work : List ℕ) (i : ℕ) (result : List ℕ) → Roomy (collection st table work i result .reply)
-unfolding collection collecting
+unfolding collection collectionBy
 collect-room st table work i result =
+    let r = getD table i free in
     roomy _
-    (one-small (collectRefusal st table work i result) _ (collect-number st table work i result)
-    (λ z. omega (arith, collected-count st table work i result z)))
+    (one-small (collectRefusal st (surveyOf st table) r work i result) _ (collect-number st (surveyOf st table) r work i result)
+    (λ z. omega (arith, collected-count st (surveyOf st table) r work i result z)))

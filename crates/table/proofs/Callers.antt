@@ -1,5 +1,5 @@
 -- A call of one of the table's functions by whoever holds the table as a `&mut [Record]`, in any context that begins with the token and what the table owns.
---     counts, looks-over, picks    the table is lent as `&` for the call, and comes back as it was: the answer is the length, the marks, or the record at i
+--     counts, looks-over, picks    the table is lent as `&` for the call, and comes back as it was: the answer is the length, the survey, or the record at i
 --     puts, frees-all      the table is given up for good: what is left says its last value, with the record r at i, or with every record free where that was asked
 -- The caller's environment comes with the proof that its key is the function's. Assumes `Given`.
 use Rattle.walk.proofs.Words.{_≡_, refl, ℕ, _<_, _^_, List, [], _∷_, length, getD, set, replicate, fullShare, Lifetime, named, w64, Operand, Place, Body, seq, call, Val, vint, vunit, SProp, id⊢, Lft, GName, Share, Fml, flft, Env′, Env, Item, ‵, raw, Post, runs, lands, Seq, Step, step, _$_, move, drop, rewrite, fsplit, Opds, Is, RefT, sliceVal}
@@ -8,15 +8,15 @@ use mathlib.Core.Bool.{Bool, cond}
 use denote.Slice.{MutSlice, finally}
 use Rattle.geometry.specs.declared.State.{State}
 use Rattle.record.specs.Life.{free}
-use Rattle.record.specs.Marks.{marksOf}
+use Rattle.record.specs.Survey.{surveyOf}
 use Rattle.record.specs.declared.Record.{Record}
 use Rattle.geometry.proofs.State as S
 use Rattle.record.proofs.Record as T
-use Rattle.record.proofs.Marks as G
-use Rattle.table.proofs.Records.{request, array-state, marks}
+use Rattle.record.proofs.Survey as Sv
+use Rattle.table.proofs.Records.{request, array-state, survey}
 use Rattle.table.proofs.count as count
 use Rattle.table.proofs.at as at
-use Rattle.table.proofs.marked as marked
+use Rattle.table.proofs.surveyed as surveyed
 use Rattle.table.proofs.replace as replace
 use Rattle.table.proofs.freed as freed
 
@@ -24,7 +24,7 @@ abbrev pub counting : Callee
 counting = record { name = count.Symbol.name; routine = count.Symbol.routine; subject = record { ended = count.ended; clauses = count.clauses }; met = count.Met.met }
 
 abbrev pub looking-over : Callee
-looking-over = record { name = marked.Symbol.name; routine = marked.Symbol.routine; subject = record { ended = marked.ended; clauses = marked.clauses }; met = marked.Met.met }
+looking-over = record { name = surveyed.Symbol.name; routine = surveyed.Symbol.routine; subject = record { ended = surveyed.ended; clauses = surveyed.clauses }; met = surveyed.Met.met }
 
 abbrev pub picking : Callee
 picking = record { name = at.Symbol.name; routine = at.Symbol.routine; subject = record { ended = at.ended; clauses = at.clauses }; met = at.Met.met }
@@ -58,12 +58,12 @@ module _ (m : Machine) (ε : Env′) (ℓ : Lifetime) (κ : Lft) (q : Share) (x 
         unlend T.the-row κ q (x .ptr .0) (x .ptr .1) (x .name) ys ℓ (named 0) t tt α $ k)))
 
     pub looks-over : K → ε (looking-over .name) ≡ looking-over .routine → (st : State) → Is S.the-row st (array-state .val st ∷ []) → ((P : SProp (m .𝓤)) (i : Item (m .𝓤)) → Opds K (given-of m) (raw P ∷ i ∷ Γ) E xs (s ∷ array-state .val st ∷ []))
-        → (Is G.the-row (marksOf st ys) (marks .val (marksOf st ys) ∷ []) → Seq K (given-of m) (‵ (flft κ q) ∷ ‵ Own ∷ Γ) (lands (calls-of m ε) (loops-of m ε) E p (marks .val (marksOf st ys)) rest z))
+        → (Is Sv.the-row (surveyOf st ys) (survey .val (surveyOf st ys) ∷ []) → Seq K (given-of m) (‵ (flft κ q) ∷ ‵ Own ∷ Γ) (lands (calls-of m ε) (loops-of m ε) E p (survey .val (surveyOf st ys)) rest z))
         → Seq K (given-of m) (‵ (flft κ q) ∷ ‵ Own ∷ Γ) (runs (calls-of m ε) (loops-of m ε) E (seq (call (looking-over .name) xs p) rest) z)
     looks-over t key st is os k =
         lend T.the-row κ q (x .ptr .0) (x .ptr .1) (x .name) ys ℓ (named 0) t tt (λ α δ.
-        answers m looking-over ε key (((α ∷ [], tt), (fullShare, tt), tt, (named-as δ, (st, tt)), (s ∷ [], (array-state .val st ∷ [], tt))), tt) t (id⊢ (m .𝓤) _) marks (marksOf st ys) (λ _ _. id⊢ (m .𝓤) _) (had (made (gives m array-state st is) nil)) (os _ _) (λ _ is-marks.
-        unlend T.the-row κ q (x .ptr .0) (x .ptr .1) (x .name) ys ℓ (named 0) t tt α $ k is-marks))
+        answers m looking-over ε key (((α ∷ [], tt), (fullShare, tt), tt, (named-as δ, (st, tt)), (s ∷ [], (array-state .val st ∷ [], tt))), tt) t (id⊢ (m .𝓤) _) survey (surveyOf st ys) (λ _ _. id⊢ (m .𝓤) _) (had (made (gives m array-state st is) nil)) (os _ _) (λ _ is-survey.
+        unlend T.the-row κ q (x .ptr .0) (x .ptr .1) (x .name) ys ℓ (named 0) t tt α $ k is-survey))
 
     pub picks : K → ε (picking .name) ≡ picking .routine → (i : ℕ) → i < 2 ^ 64 → ((P : SProp (m .𝓤)) (j : Item (m .𝓤)) → Opds K (given-of m) (raw P ∷ j ∷ Γ) E xs (s ∷ vint w64 i ∷ []))
         → (Is T.the-row (getD ys i free) (request .val (getD ys i free) ∷ []) → Seq K (given-of m) (‵ (flft κ q) ∷ ‵ Own ∷ Γ) (lands (calls-of m ε) (loops-of m ε) E p (request .val (getD ys i free)) rest z))

@@ -2,4 +2,3 @@
 pub mod Records
 pub mod Elements
 pub mod Callers
-pub mod Marking

@@ -1,14 +1,13 @@
-// The table of request records as the caller lends it: thin functions that count it, read one record, mark them, replace one and free all.
+// The table of request records as the caller lends it: thin functions that count it, read one record, look at all, replace one and free all.
 // Assumes nothing.
 ghost use mathlib.Core.Path.{_≡_};
 ghost use lib.ListN.{length, getD, set, replicate};
 ghost use mathlib.Core.Bool.{cond};
 ghost use Rattle.record.specs.Life.{free};
-ghost use Rattle.record.specs.Marks.{markIn, marksOf};
-use geometry::NO_STRIPE;
+ghost use Rattle.record.specs.Survey.{surveyOf};
 use geometry::State;
-use record::Marks;
 use record::Record;
+use record::Survey;
 
 // How many records the table has.
 pub fn count(table: &[Record]) -> u64
@@ -36,33 +35,20 @@ pub fn replace(table: &mut [Record], i: u64, r: Record)
     }
 }
 
-// The mark of the record at i; past the end, a number that is no stripe's.
-pub fn mark(table: &[Record], i: u64, state: State) -> u64
-    ensures { λ r. ⌜ r ≡ markIn state (now (table .entry)) i ⌝ }
-{
-    if i < table.len() as u64 {
-        return table[i as usize].mark(state);
-    }
-    NO_STRIPE
-}
-
-// The marks of the table: K is at most 8, and a table of another length is refused by its length alone.
-pub fn marked(table: &[Record], state: State) -> Marks
-    ensures { λ r. ⌜ r ≡ marksOf state (now (table .entry)) ⌝ }
+// What one look at the table finds.
+pub fn surveyed(table: &[Record], state: State) -> Survey
+    ensures { λ r. ⌜ r ≡ surveyOf state (now (table .entry)) ⌝ }
 {
     let n = count(table);
-    let mut top = n;
-    if 8 < n {
-        top = 8;
-    }
-    let mut marks = [NO_STRIPE; 8];
+    let top = Survey::to_see(state, n);
+    let mut survey = Survey::started(state, n);
     let mut i: u64 = 0;
     while i < top {
-        let m = mark(table, i, state);
-        marks[i as usize] = m;
+        let r = at(table, i);
+        survey = survey.seen(state, i, r);
         i += 1;
     }
-    Marks { marks, len: n }
+    survey
 }
 
 // Every record is freed, where that is asked.

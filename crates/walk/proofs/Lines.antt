@@ -3,6 +3,7 @@
 --     big          a constant of more than a byte
 --     sets         a line that fills a local, of which entry n is the room
 --     lands-in     a call's result goes to a local, of which entry n is the room
+--     lands-over   the same where the local holds something, which goes
 --     tests        the test of a `while`: the turn goes on, or the loop is left
 -- Assumes `Given`.
 use mathlib.Core.Path.{_≡_}
@@ -19,7 +20,7 @@ use base.Fml.{Share, fat, froom}
 use prog.Wp.{Heap, Env, exits, spotOf, Calls, Loops}
 use ghost.Atoms.{Atoms}
 use types.Kit.{Given, Item, ‵, nth, put, Post, post, prop, runs, lands, Seq, Step, _$_}
-use types.Run.{Opd, Rv, look, init, stop, from, load, assigns, land, first, skips, jumps, branches}
+use types.Run.{Opd, Rv, look, init, store, stop, from, load, assigns, land, first, skips, jumps, branches}
 
 module _ {M : Type 1} {𝓤 : URA M} {H : Heap 𝓤} {A : Atoms 𝓤} {K : Type 0} {W : Given 𝓤 H A} {Γ : List (Item 𝓤)} {E : Env 𝓤 H} where
   pub local : K → {i : ℕ} {q : Share} {v : Val} (n : ℕ) → nth 𝓤 H A n Γ ≡ ‵ (fat q (spotOf 𝓤 H E i .0) (spotOf 𝓤 H E i .1) (spotOf 𝓤 H E i .2) v) → Opd K W Γ E (copy (place i [])) v
@@ -36,6 +37,10 @@ module _ {M : Type 1} {𝓤 : URA M} {H : Heap 𝓤} {A : Atoms 𝓤} {K : Type 
     pub lands-in : K → {i : ℕ} {rest : Body} {v : Val} (n : ℕ) → nth 𝓤 H A n Γ ≡ ‵ (froom (spotOf 𝓤 H E i .0) (spotOf 𝓤 H E i .1) (spotOf 𝓤 H E i .2)) → T (hasTy (spotOf 𝓤 H E i .0) v) × WT v
         → Step K W (put 𝓤 H A n (‵ (fat fullShare (spotOf 𝓤 H E i .0) (spotOf 𝓤 H E i .1) (spotOf 𝓤 H E i .2) v)) Γ) (runs C Λ E rest q) Γ (lands C Λ E (place i []) v rest q)
     lands-in t n e wt = land t (from t (stop t)) (init t n e wt)
+
+    pub lands-over : K → {i : ℕ} {rest : Body} {u v : Val} (n : ℕ) → nth 𝓤 H A n Γ ≡ ‵ (fat fullShare (spotOf 𝓤 H E i .0) (spotOf 𝓤 H E i .1) (spotOf 𝓤 H E i .2) u) → T (hasTy (spotOf 𝓤 H E i .0) v) × WT v
+        → Step K W (put 𝓤 H A n (‵ (fat fullShare (spotOf 𝓤 H E i .0) (spotOf 𝓤 H E i .1) (spotOf 𝓤 H E i .2) v)) Γ) (runs C Λ E rest q) Γ (lands C Λ E (place i []) v rest q)
+    lands-over t n e wt = land t (from t (stop t)) (store t n e wt)
 
     pub tests : K → {c : Operand} {n : ℕ} {b : Body} {y : Bool} → Opd K W Γ E c (vbool y) → (T y → Seq K W Γ (runs C Λ E b q)) → (T (not y) → Seq K W Γ (prop (post 𝓤 H q (exits n))))
         → Seq K W Γ (runs C Λ E (seq (cond c skip (exit n)) b) q)

@@ -26,7 +26,7 @@ pub use denote.Slice.{sliceVal, Room}
 pub use Rattle.walk.proofs.Data.{Data, number, truth, nothing, struct-data, enum-data}
 pub use Rattle.walk.proofs.Parameters.{by-value, shared, kept, given, shared-ref, kept-ref, given-ref}
 pub use Rattle.walk.proofs.Locals.{Spots, envAt, holding, aside, end, full, room, leaves}
-pub use Rattle.walk.proofs.Lines.{local, big, sets, lands-in, tests}
+pub use Rattle.walk.proofs.Lines.{local, big, sets, lands-in, lands-over, tests}
 pub use Rattle.walk.proofs.Slices.{pointer, counted, reborrows}
 pub use Rattle.walk.proofs.Lends.{lend, unlend}
 pub use Rattle.walk.proofs.Passing.{twice, lasting}

@@ -1,17 +1,17 @@
--- `calls::collect` meets its contract: a walk of its MIR, by hand. The table's marks and the record at i are read out, the collect by marks makes the answer and the freed record, which is put back.
+-- `calls::collect` meets its contract: a walk of its MIR, by hand. The table is looked at and the record at i read out, the collect by survey makes the answer and the freed record, which is put back.
 -- Assumes nothing.
 use Rattle.walk.proofs.Words.{refl, ℕ, List, [], _∷_, length, getD, set, length-set, named, id⊢, _$_, !, move, keep, look, stop, fld, from, load, of-opd, and-then, no-more, returns, whole, sub, look-in, u8, RefT, Room}
 use Rattle.walk.proofs.Words.{number, by-value, shared, given, aside, end, full, leaves, local, sets, lands-in, reborrows, twice, lasting, Machine, Subject, Known, Entry, values, Walk, nil, had, made, gives, holds, typed, ends, proven, Callee, calls}
 use Rattle.geometry.specs.declared.State.{State}
 use Rattle.record.specs.Life.{free}
-use Rattle.record.specs.Marks.{marksOf}
+use Rattle.record.specs.Survey.{surveyOf}
 use Rattle.record.specs.declared.Record.{Record}
 use Rattle.record.proofs.Record as T
-use Rattle.array.proofs.collect_marked as core
-use Rattle.table.proofs.Records.{request, array-state, marks}
+use Rattle.array.proofs.collect_by as core
+use Rattle.table.proofs.Records.{request, array-state, survey}
 use Rattle.table.proofs.Callers.{looks-over, picks, puts}
 use Rattle.calls.proofs.Answers.{collection-data, collection-parts, collected-data}
-use Rattle.calls.proofs.Bridge.{collect-lent}
+use Rattle.calls.proofs.BySurvey.{collect-lent}
 use Rattle.calls.proofs.collect
 
 abbrev it : Subject
@@ -20,9 +20,9 @@ it = record { ended = collect.ended; clauses = collect.clauses }
 abbrev params : Known it
 params = (by-value array-state, (given 0 tt T.the-row, (shared 1 tt u8, (by-value number, (given 2 tt u8, tt)))))
 
--- the collect by marks
-abbrev by-marks : Callee
-by-marks = record { name = core.Symbol.name; routine = core.Symbol.routine; subject = record { ended = core.ended; clauses = core.clauses }; met = core.Met.met }
+-- the collect by survey
+abbrev by-survey : Callee
+by-survey = record { name = core.Symbol.name; routine = core.Symbol.routine; subject = record { ended = core.ended; clauses = core.clauses }; met = core.Met.met }
 
 module _ (m : Machine) (e : Entry m it params) where
   abbrev st : State
@@ -54,24 +54,24 @@ module _ (m : Machine) (e : Entry m it params) where
   walk l =
       reborrows ! 4 18 20 refl refl refl tt refl refl refl (tt, (tt, (record { fits = fits .0 }, tt))) $ move ! (36 ∷ 40 ∷ []) $
       -- [the table's token; what the table owns; _0; …; _17; …; the others' tokens; what state, work, i and result own]
-      looks-over m collect.Code.env (named 0) (e .lfts .0) (e .shares .0) t ! collect.Code.calls-table·marked st (e .are .0) (λ _ _. and-then ! (local ! 22 refl) (and-then ! (local ! 4 refl) (no-more !))) (λ is-marks.
-      lands-in ! 14 refl (typed m marks (marksOf st (t .now)) is-marks .0) $
+      looks-over m collect.Code.env (named 0) (e .lfts .0) (e .shares .0) t ! collect.Code.calls-table·surveyed st (e .are .0) (λ _ _. and-then ! (local ! 22 refl) (and-then ! (local ! 4 refl) (no-more !))) (λ is-survey.
+      lands-in ! 14 refl (typed m survey (surveyOf st (t .now)) is-survey .0) $
       reborrows ! 6 24 26 refl refl refl tt refl refl refl (tt, (tt, (record { fits = fits .0 }, tt))) $
       picks m collect.Code.env (named 0) (e .lfts .0) (e .shares .0) t ! collect.Code.calls-table·at i (e .are .1 .1 .1 .0 .1) (λ _ _. and-then ! (local ! 26 refl) (and-then ! (local ! 10 refl) (no-more !))) (λ is-old.
       lands-in ! 16 refl (typed m request old is-old .0) $
       reborrows ! 12 28 30 refl refl refl tt refl refl refl (tt, (tt, (record { fits = result-fits .0 }, tt))) $
       move ! (41 ∷ []) $ twice ! u8 (named 1) (e .lfts .1 .0) w $ move ! (40 ∷ 41 ∷ 0 ∷ 44 ∷ []) $
-      calls m by-marks collect.Code.env collect.Code.calls-array·collect-marked (
+      calls m by-survey collect.Code.env collect.Code.calls-array·collect-by (
         (
           e .lfts .1,
           e .shares .1,
           tt,
-          (st, (marksOf st (t .now), (old, e .args .1 .1))),
-          (array-state .val st ∷ [], (marks .val (marksOf st (t .now)) ∷ [], (request .val old ∷ [], values m it params e .1 .1))),
+          (st, (surveyOf st (t .now), (old, e .args .1 .1))),
+          (array-state .val st ∷ [], (survey .val (surveyOf st (t .now)) ∷ [], (request .val old ∷ [], values m it params e .1 .1))),
         ),
         tt,
       ) ! (id⊢ (m .𝓤) _) collection-data (λ _ _. id⊢ (m .𝓤) _)
-      (made (gives m array-state st (e .are .0)) (made (gives m marks (marksOf st (t .now)) is-marks) (made (gives m request old is-old) (had (made (gives m number i (e .are .1 .1 .1 .0)) (had nil))))))
+      (made (gives m array-state st (e .are .0)) (made (gives m survey (surveyOf st (t .now)) is-survey) (made (gives m request old is-old) (had (made (gives m number i (e .are .1 .1 .1 .0)) (had nil))))))
       (and-then ! (local ! 6 refl) (and-then ! (local ! 16 refl) (and-then ! (local ! 18 refl) (and-then ! (local ! 10 refl) (and-then ! (local ! 12 refl) (and-then ! (local ! 32 refl) (no-more !))))))) (λ r ws said is-out.
       lands-in ! 22 refl (typed m collection-data r is-out .0) $
       move ! (2 ∷ []) $ lasting ! u8 (λ result-long. move ! (4 ∷ 5 ∷ []) $

@@ -9,15 +9,15 @@ use Rattle.geometry.specs.declared.Geometry.{Geometry}
 use Rattle.record.specs.Life.{free}
 use Rattle.record.specs.declared.Record.{Record}
 use Rattle.array.specs.Answers.{openedReply}
-use Rattle.array.specs.Opening.{opening}
-use Rattle.array.specs.Marked.{OpeningSized}
+use Rattle.array.specs.Opening.{openingBy, opening}
+use Rattle.array.specs.Outcomes.{OpeningIs}
 use Rattle.array.specs.declared.answers.Opening.{Opening}
 use Rattle.record.proofs.Record as T
-use Rattle.array.proofs.open_sized as core
+use Rattle.array.proofs.open_by as core
 use Rattle.table.proofs.Callers.{counts, frees-all}
 use Rattle.calls.specs.Lent.{OpeningLent}
 use Rattle.calls.proofs.Answers.{geometry-data, opening-data, opening-parts, opened-data}
-use Rattle.calls.proofs.Bridge.{open-lent}
+use Rattle.calls.proofs.BySurvey.{open-lent}
 use Rattle.calls.proofs.is_open as tested
 use Rattle.calls.proofs.open
 
@@ -29,9 +29,9 @@ left-long : (asked : Bool) (ys : List Record) → length (left asked ys) ≡ len
 left-long true ys = length-replicate (length ys) free
 left-long false ys = refl
 
-says : (ys : List Record) (g : Geometry) (out : ℕ) (w m : List ℕ) (r : Opening) (asked : Bool) → OpeningSized g out (length ys) w m r → asked ≡ eqb (openedReply (r .answer) .number) 0
+says : (ys : List Record) (g : Geometry) (out : ℕ) (w m : List ℕ) (r : Opening) (asked : Bool) → OpeningIs (openingBy g out (length ys) w m) r → asked ≡ eqb (openedReply (r .answer) .number) 0
     → OpeningLent (opening g out ys w m) (r .answer) (r .state) (left asked ys)
-says ys g out w m r asked said e = rw e (open-lent ys g out w m r (said ys refl))
+says ys g out w m r asked said e = rw e (open-lent ys g out w m r said)
 
 abbrev it : Subject
 it = record { ended = open.ended; clauses = open.clauses }
@@ -75,7 +75,7 @@ module _ (m : Machine) (e : Entry m it params) where
       counts m open.Code.env (named 0) (e .lfts .0) (e .shares .0) t ! open.Code.calls-table·count (λ _ _. and-then ! (local ! 20 refl) (no-more !)) $
       lands-in ! 14 refl (tt, record { fits = fits .0 }) $
       move ! (34 ∷ []) $ twice ! u8 (named 1) (e .lfts .1 .0) w $ move ! (36 ∷ []) $ twice ! u8 (named 2) (e .lfts .1 .1 .0) image $ move ! (34 ∷ 35 ∷ 2 ∷ 0 ∷ []) $
-      calls m by-length open.Code.env open.Code.calls-array·open-sized ((e .lfts .1, e .shares .1, tt, (g, (out, (length ys, e .args .1 .1 .1))), (geometry-data .val g ∷ [], (number .val out ∷ [], (number .val (length ys) ∷ [], values m it params e .1 .1 .1)))), tt) ! (id⊢ (m .𝓤) _) opening-data (λ _ _. id⊢ (m .𝓤) _)
+      calls m by-length open.Code.env open.Code.calls-array·open-by ((e .lfts .1, e .shares .1, tt, (g, (out, (length ys, e .args .1 .1 .1))), (geometry-data .val g ∷ [], (number .val out ∷ [], (number .val (length ys) ∷ [], values m it params e .1 .1 .1)))), tt) ! (id⊢ (m .𝓤) _) opening-data (λ _ _. id⊢ (m .𝓤) _)
       (made (gives m geometry-data g (e .are .0)) (made (gives m number out (e .are .1 .0)) (made (gives m number (length ys) (refl, fits .0)) (had (had nil)))))
       (and-then ! (local ! 7 refl) (and-then ! (local ! 9 refl) (and-then ! (local ! 17 refl) (and-then ! (local ! 13 refl) (and-then ! (local ! 15 refl) (no-more !)))))) (λ r ws said is-out.
       lands-in ! 20 refl (typed m opening-data r is-out .0) $

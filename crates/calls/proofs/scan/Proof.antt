@@ -1,15 +1,16 @@
--- `calls::scan` meets its contract: a walk of its MIR, by hand. The table's marks are read out, and the scan by marks makes the answer.
+-- `calls::scan` meets its contract: a walk of its MIR, by hand. The table is looked at, and the scan by survey makes the answer.
 -- Assumes nothing.
 use Rattle.walk.proofs.Words.{refl, ℕ, List, [], _∷_, named, id⊢, _$_, !, move, keep, look, and-then, no-more, returns, u8, RefT}
 use Rattle.walk.proofs.Words.{by-value, shared, aside, end, full, leaves, local, lands-in, twice, Machine, Subject, Known, Entry, values, Walk, nil, had, made, gives, holds, typed, ends, proven, Callee, calls, answers}
 use Rattle.geometry.specs.declared.State.{State}
-use Rattle.record.specs.Marks.{marksOf}
+use Rattle.record.specs.Survey.{surveyOf}
 use Rattle.record.specs.declared.Record.{Record}
 use Rattle.record.proofs.Record as T
-use Rattle.array.proofs.scan_marked as core
-use Rattle.table.proofs.Records.{array-state, marks}
+use Rattle.array.proofs.scan_by as core
+use Rattle.table.proofs.Records.{array-state, survey}
 use Rattle.table.proofs.Callers.{looking-over}
 use Rattle.calls.proofs.Answers.{scan-data}
+use Rattle.calls.proofs.BySurvey.{scan-lent}
 use Rattle.calls.proofs.scan
 
 abbrev it : Subject
@@ -18,9 +19,9 @@ it = record { ended = scan.ended; clauses = scan.clauses }
 abbrev params : Known it
 params = (by-value array-state, (shared 0 tt T.the-row, (shared 1 tt u8, tt)))
 
--- the scan by marks
-abbrev by-marks : Callee
-by-marks = record { name = core.Symbol.name; routine = core.Symbol.routine; subject = record { ended = core.ended; clauses = core.clauses }; met = core.Met.met }
+-- the scan by survey
+abbrev by-survey : Callee
+by-survey = record { name = core.Symbol.name; routine = core.Symbol.routine; subject = record { ended = core.ended; clauses = core.clauses }; met = core.Met.met }
 
 module _ (m : Machine) (e : Entry m it params) where
   abbrev st : State
@@ -36,17 +37,17 @@ module _ (m : Machine) (e : Entry m it params) where
   walk l =
       move ! (13 ∷ []) $ twice ! T.the-row (named 0) (e .lfts .0) t $ move ! (12 ∷ 0 ∷ []) $
       -- [the table's token; what the table owns, twice; _0; …; _4; …; the image's token; what state and image own]
-      answers m looking-over scan.Code.env scan.Code.calls-table·marked (((e .lfts .0, tt), (e .shares .0, tt), tt, (t, (st, tt)), (values m it params e .1 .0, (array-state .val st ∷ [], tt))), tt) ! (id⊢ (m .𝓤) _) marks (marksOf st (t .now)) (λ _ _. id⊢ (m .𝓤) _)
-      (had (made (gives m array-state st (e .are .0)) nil)) (and-then ! (local ! 6 refl) (and-then ! (local ! 4 refl) (no-more !))) (λ _ is-marks.
-      lands-in ! 10 refl (typed m marks (marksOf st (t .now)) is-marks .0) $
+      answers m looking-over scan.Code.env scan.Code.calls-table·surveyed (((e .lfts .0, tt), (e .shares .0, tt), tt, (t, (st, tt)), (values m it params e .1 .0, (array-state .val st ∷ [], tt))), tt) ! (id⊢ (m .𝓤) _) survey (surveyOf st (t .now)) (λ _ _. id⊢ (m .𝓤) _)
+      (had (made (gives m array-state st (e .are .0)) nil)) (and-then ! (local ! 6 refl) (and-then ! (local ! 4 refl) (no-more !))) (λ _ is-survey.
+      lands-in ! 10 refl (typed m survey (surveyOf st (t .now)) is-survey .0) $
       move ! (14 ∷ []) $ twice ! u8 (named 1) (e .lfts .1 .0) image $ move ! (14 ∷ 0 ∷ []) $
-      calls m by-marks scan.Code.env scan.Code.calls-array·scan-marked ((e .lfts .1, e .shares .1, tt, (st, (marksOf st (t .now), e .args .1 .1)), (array-state .val st ∷ [], (marks .val (marksOf st (t .now)) ∷ [], values m it params e .1 .1))), tt) ! (id⊢ (m .𝓤) _) scan-data (λ _ _. id⊢ (m .𝓤) _)
-      (made (gives m array-state st (e .are .0)) (made (gives m marks (marksOf st (t .now)) is-marks) (had nil)))
+      calls m by-survey scan.Code.env scan.Code.calls-array·scan-by ((e .lfts .1, e .shares .1, tt, (st, (surveyOf st (t .now), e .args .1 .1)), (array-state .val st ∷ [], (survey .val (surveyOf st (t .now)) ∷ [], values m it params e .1 .1))), tt) ! (id⊢ (m .𝓤) _) scan-data (λ _ _. id⊢ (m .𝓤) _)
+      (made (gives m array-state st (e .are .0)) (made (gives m survey (surveyOf st (t .now)) is-survey) (had nil)))
       (and-then ! (local ! 6 refl) (and-then ! (local ! 12 refl) (and-then ! (local ! 10 refl) (no-more !)))) (λ r _ said is-out.
       lands-in ! 4 refl (typed m scan-data r is-out .0) $
       -- [the image's token; image; the table's token; what the table owns; _0; …; _4; …; what state owns]
       returns ! (look ! 4 refl) $ aside ! 4 $ leaves ! (full (full (full (full (full end))))) $ keep ! (3 ∷ 1 ∷ 0 ∷ 4 ∷ 2 ∷ []) $
-      ends m it params e scan-data r is-out (tt, (tt, (tt, tt))) (tt, (tt, (tt, tt))) (holds m (said (t .now) refl)) (had (had (had nil)))))
+      ends m it params e scan-data r is-out (tt, (tt, (tt, tt))) (tt, (tt, (tt, tt))) (holds m (scan-lent (t .now) st (image .now) r said)) (had (had (had nil)))))
 
 pub scan-spec : {M : Type 1} → scan.Statement.statement M
 unfolding scan.Code.routine
