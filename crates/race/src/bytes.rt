@@ -23,30 +23,36 @@ pub(crate) fn touch(touches: &[u8], j: u64) -> &[u8] {
     touches_from(touches, j, 1)
 }
 
-// Adds what every card but one holds in a stripe to a sum.
-fn add_others(sum: &mut [u8; 512], state: State, card: u64, stripe: u64, image: &[u8]) {
-    let cards = state.cards;
-    let mut other = 0;
-    while other < cards {
-        if other != card {
-            block::add(sum, state.cell(image, other, stripe));
-        }
-        other += 1;
+// A sum with what another card holds in a stripe added to it; as it was where that is the card itself.
+fn added(sum: [u8; 512], state: State, card: u64, other: u64, image: &[u8]) -> [u8; 512] {
+    if other == card {
+        return sum;
     }
+    let mut more = sum;
+    block::add(&mut more, state.cell(image, other, 1));
+    more
 }
 
-// Copies as much of a sum as a block has bytes.
-fn copy_front(block: &mut [u8], sum: &[u8; 512]) {
-    block::copy(block, sum);
+// The sum of what every card but one of the five holds in stripe 1.
+fn others(state: State, card: u64, image: &[u8]) -> [u8; 512] {
+    let sum = [0u8; 512];
+    let sum = added(sum, state, card, 0, image);
+    let sum = added(sum, state, card, 1, image);
+    let sum = added(sum, state, card, 2, image);
+    let sum = added(sum, state, card, 3, image);
+    added(sum, state, card, 4, image)
 }
 
-// What a card held in a stripe, inferred from the other cards: their exclusive or.
-pub(crate) fn inferred(desk: Desk, card: u64, stripe: u64) -> [u8; 16] {
+// The front of a sum.
+fn front(sum: [u8; 512]) -> [u8; 16] {
+    let mut block = [0u8; 16];
+    block::copy(&mut block, &sum);
+    block
+}
+
+// What a card held in stripe 1, inferred from the other cards: their exclusive or.
+pub(crate) fn inferred(desk: Desk, card: u64) -> [u8; 16] {
     let state = desk.state;
     let image = desk.image;
-    let mut sum = [0u8; 512];
-    add_others(&mut sum, state, card, stripe, &image);
-    let mut block = [0u8; 16];
-    copy_front(&mut block, &sum);
-    block
+    front(others(state, card, &image))
 }

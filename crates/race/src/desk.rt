@@ -1,48 +1,21 @@
-// The race desk: all that goes from call to call, by value, and the library's calls over it, with the changed record put back into the table.
-use array::answers::Admitted;
-use array::answers::Collected;
-use array::answers::Stepped;
-use geometry::Placed;
+// The race desk: all that goes from call to call, by value, and the library's calls over it, told as they are made.
+use crate::script;
+use crate::script::tell;
+use crate::told;
 use geometry::State;
 use parity::Scan;
 use record::Record;
 use record::Table;
 
-// The state, the table, the work store and the image.
+// The state, the table, the work store and the image; the place of the record that was admitted last, and whether the last touch that was read is
+// as it was sent.
 pub struct Desk {
     pub state: State,
     pub table: Table,
     pub work: [u8; 320],
     pub image: [u8; 400],
-}
-
-// A desk after an admission, what admit answered, and the record that was taken with its place.
-pub struct Asked {
-    pub desk: Desk,
-    pub answer: Admitted,
-    pub record: Record,
     pub place: u64,
-}
-
-// A desk after a step, and what step answered.
-pub struct Made {
-    pub desk: Desk,
-    pub answer: Stepped,
-}
-
-// A desk after a collection, what collect answered, and the result buffer.
-pub struct Given {
-    pub desk: Desk,
-    pub answer: Collected,
-    pub result: [u8; 16],
-}
-
-// Where a block is: its card and stripe, its unit there, and the mask of that unit alone.
-pub struct Spot {
-    pub card: u64,
-    pub stripe: u64,
-    pub unit: u64,
-    pub mask: u64,
+    pub same: bool,
 }
 
 // A table of so many free records.
@@ -101,34 +74,6 @@ fn agree(a: Record, b: Record) -> bool {
         == 0
 }
 
-// The mask of one unit; none where the unit has no bit.
-fn only(unit: u64) -> u64 {
-    if unit >= 64 {
-        return 0;
-    }
-    1 << unit
-}
-
-// The spot of a card and a stripe.
-fn spot_of(state: State, card: u64, stripe: u64) -> Spot {
-    let unit = geometry::missing_at(state.cards, stripe, card);
-    Spot {
-        card,
-        stripe,
-        unit,
-        mask: only(unit),
-    }
-}
-
-// Where a block is; past the last card and stripe where there is no such block.
-pub(crate) fn place_of(state: State, block: u64) -> Spot {
-    match state.geometry().place(block) {
-        Placed::At { card, stripe } => spot_of(state, card, stripe),
-        Placed::Beyond => spot_of(state, state.cards, state.stripes),
-        Placed::OutOfRange => spot_of(state, state.cards, state.stripes),
-    }
-}
-
 impl Desk {
     // The record at a place.
     pub(crate) fn record(self, i: u64) -> Record {
@@ -162,8 +107,23 @@ impl Desk {
         check::same(&a, &b)
     }
 
-    // Admits a request of one stripe.
-    pub(crate) fn admit(self, write: bool, stripe: u64, mask: u64, payload: &[u8]) -> Asked {
+    // The desk after a call that left a work store, an image, and a record at a place.
+    fn after(self, work: [u8; 320], image: [u8; 400], place: u64, r: Record) -> Desk {
+        let state = self.state;
+        let before = self.table;
+        let table = with(before, place, r);
+        Desk {
+            state,
+            table,
+            work,
+            image,
+            place,
+            same: false,
+        }
+    }
+
+    // Admits a request of some units of the stripe of a block.
+    pub(crate) fn admit(self, block: u64, write: bool, mask: u64, payload: &[u8]) -> Desk {
         let state = self.state;
         let before = self.table;
         let mut work = self.work;
@@ -174,68 +134,58 @@ impl Desk {
             &mut work,
             &image,
             write,
-            stripe,
+            block / 4,
             mask,
             payload,
         );
         let answer = made.answer;
-        let record = made.record;
-        let place = made.place;
-        let table = with(before, place, record);
-        let desk = Desk {
-            state,
-            table,
-            work,
-            image,
-        };
-        Asked {
-            desk,
-            answer,
-            record,
-            place,
-        }
+        let r = made.record;
+        told::admitted(answer, write, block, r.stripe, r.graph);
+        self.after(work, image, made.place, r)
     }
 
-    // Takes step k of record i.
-    pub(crate) fn step(self, i: u64, k: u64) -> Made {
+    // Tells what step k of record i is.
+    pub(crate) fn name(self, i: u64, k: u64) {
+        let state = self.state;
+        told::step_name(state.cards, self.record(i).stripe, k);
+    }
+
+    // Takes step k of record i, and tells what came of it where it is aloud.
+    pub(crate) fn step(self, i: u64, k: u64, aloud: bool) -> Desk {
         let state = self.state;
         let before = self.table;
         let mut work = self.work;
         let mut image = self.image;
         let made = array::step(state, before, &mut work, &mut image, i, k);
         let answer = made.answer;
+        if aloud {
+            tell(script::INDENT);
+            self.name(i, k);
+            told::stepped(answer);
+        }
         let r = made.record;
-        let table = with(before, made.place, r);
-        let desk = Desk {
-            state,
-            table,
-            work,
-            image,
-        };
-        Made { desk, answer }
+        self.after(work, image, made.place, r)
     }
 
-    // Collects record i.
-    pub(crate) fn collect(self, i: u64) -> Given {
+    // Collects record i: a write, where nothing was sent, or a read, whose units are compared with what was sent.
+    pub(crate) fn collect(self, i: u64, sent: &[u8]) -> Desk {
         let state = self.state;
         let before = self.table;
         let work = self.work;
-        let image = self.image;
         let mut result = [0u8; 16];
         let made = array::collect(state, before, &work, i, &mut result);
         let answer = made.answer;
+        let same = told::given(answer, &result, sent);
         let r = made.record;
         let table = with(before, made.place, r);
-        let desk = Desk {
+        let image = self.image;
+        Desk {
             state,
             table,
             work,
             image,
-        };
-        Given {
-            desk,
-            answer,
-            result,
+            place: i,
+            same,
         }
     }
 
@@ -247,9 +197,8 @@ impl Desk {
         array::scan(state, table, &image)
     }
 
-    // The desk with every block of a card turned to noise.
-    pub(crate) fn noisy(self, card: u64) -> Desk {
-        let state = self.state;
+    // The desk in another state, with every block of a card turned to noise.
+    pub(crate) fn noisy(self, state: State, card: u64) -> Desk {
         let table = self.table;
         let work = self.work;
         let mut image = self.image;
@@ -260,19 +209,8 @@ impl Desk {
             table,
             work,
             image,
-        }
-    }
-
-    // The desk with another state.
-    pub(crate) fn in_state(self, state: State) -> Desk {
-        let table = self.table;
-        let work = self.work;
-        let image = self.image;
-        Desk {
-            state,
-            table,
-            work,
-            image,
+            place: 0,
+            same: false,
         }
     }
 }

@@ -6,7 +6,6 @@ use geometry::NONE;
 
 mod bytes;
 mod desk;
-mod requests;
 mod scenes;
 mod script;
 mod told;
@@ -35,6 +34,8 @@ fn opened() -> Desk {
         table,
         work,
         image,
+        place: 0,
+        same: false,
     }
 }
 

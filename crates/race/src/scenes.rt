@@ -1,34 +1,71 @@
-// The scenes of the race. Block j holds the latest touch of chip j + 1: of the first touches, then of the last ones.
+// The scenes of the race. Block j, which is unit j mod 4 of stripe j div 4, holds the latest touch of chip j + 1: of the first touches, then of the
+// last ones.
 use crate::bytes::inferred;
 use crate::bytes::touch;
 use crate::bytes::touches_from;
 use crate::desk::Desk;
-use crate::desk::place_of;
-use crate::requests::ALL;
-use crate::requests::Begun;
-use crate::requests::begin;
-use crate::requests::begin_touch;
-use crate::requests::finish;
-use crate::requests::read;
-use crate::requests::run;
 use crate::script;
 use crate::script::say;
 use crate::script::tell;
 use crate::told;
 use telling::words;
 
+// More steps than any request takes.
+const ALL: u64 = 17;
+
 // How many swimmers touch.
 const SWIMMERS: u64 = 8;
+
+// The mask of a block's unit alone.
+fn only(block: u64) -> u64 {
+    1 << (block % 4)
+}
+
+// The card of a block.
+fn card_of(desk: Desk, block: u64) -> u64 {
+    let state = desk.state;
+    geometry::card_at(state.cards, block / 4, block % 4)
+}
+
+// Takes the lowest ready step of record i, again and again while it is open, at most so many times.
+fn run(desk: Desk, i: u64, most: u64, aloud: bool) -> Desk {
+    let mut now = desk;
+    let mut left = most;
+    while left > 0 {
+        if now.record(i).phase != 1 {
+            return now;
+        }
+        let k = now.next(i);
+        now = now.step(i, k, aloud);
+        left -= 1;
+    }
+    now
+}
+
+// The rest of a write, and its collection.
+fn finish(desk: Desk, i: u64, aloud: bool) -> Desk {
+    let desk = run(desk, i, ALL, aloud);
+    desk.collect(i, b"")
+}
+
+// A write from its first step to its last.
+fn write(desk: Desk, block: u64, mask: u64, aloud: bool, sent: &[u8]) -> Desk {
+    let desk = desk.admit(block, true, mask, sent);
+    finish(desk, desk.place, aloud)
+}
+
+// A read of one block from its first step to its last.
+fn read(desk: Desk, block: u64, touches: &[u8]) -> Desk {
+    let desk = desk.admit(block, false, only(block), b"");
+    let i = desk.place;
+    let desk = run(desk, i, ALL, false);
+    desk.collect(i, touch(touches, block))
+}
 
 // Four swimmers touch together: a write of a whole stripe, from its first block on.
 fn together(desk: Desk, first: u64, aloud: bool, touches: &[u8]) -> Desk {
     say(script::TOGETHER, first, 0, 0, 0);
-    let sent = touches_from(touches, first, 4);
-    let state = desk.state;
-    let begun = begin(desk, place_of(state, first).stripe, 15, sent);
-    let i = begun.place;
-    let desk = run(begun.desk, i, ALL, aloud);
-    finish(desk, i)
+    write(desk, first, 15, aloud, touches_from(touches, first, 4))
 }
 
 // The first lap: all swimmers touch, and the scan finds parity right.
@@ -40,82 +77,62 @@ pub(crate) fn first_lap(desk: Desk, touches: &[u8]) -> Desk {
 }
 
 // A swimmer touches alone: the write's first three steps.
-fn touches_alone(desk: Desk, sent: &[u8]) -> Begun {
+fn touches_alone(desk: Desk, sent: &[u8]) -> Desk {
     told::touch(script::ALONE, sent, 4);
-    let begun = begin_touch(desk, 4, sent);
-    let place = begun.place;
-    let desk = run(begun.desk, place, 3, true);
-    Begun { desk, place }
+    let desk = desk.admit(4, true, 1, sent);
+    run(desk, desk.place, 3, true)
 }
 
 // A touch for a stripe that is held is refused, and alters nothing.
 fn turned_away(desk: Desk, sent: &[u8]) {
     told::touch(script::ANOTHER, sent, 5);
-    let begun = begin_touch(desk, 5, sent);
-    let after = begun.desk;
+    let after = desk.admit(5, true, 2, sent);
     told::kept(desk.same_table(after), desk.same_work(after));
-}
-
-// Meanwhile a touch for the same stripe is turned away, and another is read.
-fn meanwhile(desk: Desk, last: &[u8]) -> Desk {
-    turned_away(desk, touch(last, 5));
-    tell(script::MEANWHILE);
-    let heard = read(desk, 2, last);
-    heard.desk
 }
 
 // Tells between which two steps of a record a card dies.
 fn between(desk: Desk, i: u64, card: u64) {
-    let state = desk.state;
-    let stripe = desk.record(i).stripe;
     say(script::DIES, card, 0, 0, 0);
-    told::step_name(state.cards, stripe, desk.last(i));
+    desk.name(i, desk.last(i));
     tell(script::AND);
-    told::step_name(state.cards, stripe, desk.next(i));
+    desk.name(i, desk.next(i));
+    tell(script::REPORTED);
 }
 
 // A card dies: it is reported, and its bytes turn to noise.
 fn dies(desk: Desk, card: u64) -> Desk {
-    tell(script::REPORTED);
     let state = desk.state;
     let report = state.report(card);
     let answer = report.answer;
     told::reported(answer);
     tell(script::NOISE);
-    desk.noisy(card).in_state(report.state)
+    desk.noisy(report.state, card)
 }
 
-// The card of that touch dies; the step that meets it has the graph chosen afresh, and the write goes on to its end.
-fn chosen_afresh(desk: Desk, i: u64) -> Desk {
-    let state = desk.state;
-    let card = place_of(state, 4).card;
-    between(desk, i, card);
-    let desk = dies(desk, card);
-    let desk = run(desk, i, ALL, true);
-    finish(desk, i)
-}
-
-// A swimmer touches alone, and the card of that touch dies between two steps of the write.
+// A swimmer touches alone; meanwhile a touch for the same stripe is turned away, and another is read; then the card of that touch dies between two
+// steps of its write. The step that meets it has the graph chosen afresh, and the write goes on to its end.
 pub(crate) fn card_dies(desk: Desk, last: &[u8]) -> Desk {
-    let begun = touches_alone(desk, touch(last, 4));
-    let i = begun.place;
-    let desk = meanwhile(begun.desk, last);
-    chosen_afresh(desk, i)
+    let desk = touches_alone(desk, touch(last, 4));
+    let i = desk.place;
+    turned_away(desk, touch(last, 5));
+    tell(script::MEANWHILE);
+    let desk = read(desk, 2, last);
+    let card = card_of(desk, 4);
+    between(desk, i, card);
+    finish(dies(desk, card), i, true)
 }
 
 // A touch from its first step to its last, told in short.
-fn written(desk: Desk, what: u64, block: u64, sent: &[u8]) -> Desk {
+fn written(desk: Desk, what: u64, block: u64, last: &[u8]) -> Desk {
+    let sent = touch(last, block);
     told::touch(what, sent, block);
-    let begun = begin_touch(desk, block, sent);
-    let i = begun.place;
-    let desk = run(begun.desk, i, ALL, false);
-    finish(desk, i)
+    write(desk, block, only(block), false, sent)
 }
 
 // With the card out, the touch that was turned away asks again, and a time is corrected.
 pub(crate) fn race_goes_on(desk: Desk, last: &[u8]) -> Desk {
-    let desk = written(desk, script::AGAIN, 5, touch(last, 5));
-    written(desk, script::CORRECTED, 1, touch(last, 1))
+    let desk = written(desk, script::AGAIN, 5, last);
+    written(desk, script::CORRECTED, 1, last)
 }
 
 // Reads every touch back, and answers how many are what was sent.
@@ -124,11 +141,10 @@ fn read_all(desk: Desk, last: &[u8]) -> u64 {
     let mut same: u64 = 0;
     let mut block: u64 = 0;
     while block < SWIMMERS {
-        let heard = read(now, block, last);
-        if heard.same {
+        now = read(now, block, last);
+        if now.same {
             same += 1;
         }
-        now = heard.desk;
         block += 1;
     }
     same
@@ -136,10 +152,9 @@ fn read_all(desk: Desk, last: &[u8]) -> u64 {
 
 // The touch that the dead card held, inferred from the other cards.
 fn dead_cards_touch(desk: Desk, sent: &[u8]) {
-    let state = desk.state;
-    let spot = place_of(state, 4);
-    let held = inferred(desk, spot.card, spot.stripe);
-    say(script::INFERRED, spot.card, spot.unit, spot.stripe, 0);
+    let card = card_of(desk, 4);
+    let held = inferred(desk, card);
+    say(script::INFERRED, card, 0, 1, 0);
     words(&held);
     told::compared(check::same(&held, sent));
 }

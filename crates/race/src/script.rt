@@ -94,6 +94,8 @@ const GRAPHS: u64 = 54;
 
 const GRAPH: u64 = 61;
 
+const CLOSED: u64 = 62;
+
 // A telling: how many sentences come before the one that is told, and the numbers that it has not used.
 pub struct Telling {
     pub before: u64,
@@ -104,8 +106,12 @@ pub struct Telling {
 }
 
 impl Telling {
-    // The same with so many sentences before the one that is told.
-    fn with(self, before: u64) -> Telling {
+    // After the end of a sentence: one less comes before the told one, and none is told after it.
+    fn ended(self) -> Telling {
+        let mut before = 1000;
+        if self.before > 0 {
+            before = self.before - 1;
+        }
         Telling {
             before,
             a: self.a,
@@ -113,15 +119,6 @@ impl Telling {
             c: self.c,
             d: self.d,
         }
-    }
-
-    // After the end of a sentence: one less comes before the told one, and none is told after it.
-    fn ended(self) -> Telling {
-        let before = self.before;
-        if before == 0 {
-            return self.with(1000);
-        }
-        self.with(before - 1)
     }
 
     // Tells the first number, and goes on to the next.
@@ -182,7 +179,7 @@ pub(crate) fn say(sentence: u64, a: u64, b: u64, c: u64, d: u64) {
         , block #\n|\
         The board reads a touch meanwhile\n|\
         Every touch is read back\n|\
-        admitted as record #: stripe #, |\
+        \x20 admitted as record #: stripe #, |\
         collected, steps: #\n|\
         \x20 block #: record #, |\
         , steps: #, gives |\
@@ -233,7 +230,8 @@ pub(crate) fn say(sentence: u64, a: u64, b: u64, c: u64, d: u64) {
         reconstruct write|\
         large write|\
         parity failed|\
-        graph # (|",
+        graph # (|\
+        )|",
         telling,
     );
 }
@@ -250,7 +248,7 @@ pub(crate) fn graph(g: u64) {
     }
     say(GRAPH, g, 0, 0, 0);
     tell(GRAPHS + g);
-    words(b")");
+    tell(CLOSED);
 }
 
 // Tells that a call was refused, by document 01's number, and why.
@@ -260,5 +258,6 @@ pub(crate) fn refused(number: u64) {
     }
     say(REFUSED, number, 0, 0, 0);
     tell(REASONS + number);
-    words(b")\n");
+    tell(CLOSED);
+    tell(END);
 }

@@ -14,11 +14,6 @@ use graph::Action;
 use parity::Scan;
 use telling::words;
 
-// Where parity disagrees.
-fn disagrees(stripe: u64, byte: u64) {
-    say(script::DISAGREES, stripe, byte, 0, 0);
-}
-
 // A touch, and the block that it is for.
 pub(crate) fn touch(what: u64, sent: &[u8], block: u64) {
     tell(what);
@@ -38,20 +33,37 @@ pub(crate) fn opened(answer: Opened, state: State) {
             state.records,
         ),
         Opened::Refused(number) => refused(number),
-        Opened::Disagrees(stripe, byte) => disagrees(stripe, byte),
+        Opened::Disagrees(stripe, byte) => say(script::DISAGREES, stripe, byte, 0, 0),
     }
 }
 
+// What admit answered of a write, with the request's stripe and graph.
+fn taken(i: u64, stripe: u64, g: u64) {
+    say(script::ADMITTED, i, stripe, 0, 0);
+    graph(g);
+    tell(script::END);
+}
+
+// What admit answered of a read of one block.
+fn asked(i: u64, block: u64, g: u64) {
+    say(script::ASKED, block, i, 0, 0);
+    graph(g);
+}
+
 // What admit answered, with the request's stripe and graph.
-pub(crate) fn admitted(answer: Admitted, stripe: u64, g: u64) {
-    tell(script::INDENT);
+pub(crate) fn admitted(answer: Admitted, write: bool, block: u64, stripe: u64, g: u64) {
     match answer {
         Admitted::Taken(i) => {
-            say(script::ADMITTED, i, stripe, 0, 0);
-            graph(g);
-            tell(script::END);
+            if write {
+                taken(i, stripe, g);
+            } else {
+                asked(i, block, g);
+            }
         }
-        Admitted::Refused(number) => refused(number),
+        Admitted::Refused(number) => {
+            tell(script::INDENT);
+            refused(number);
+        }
     }
 }
 
@@ -116,7 +128,7 @@ pub(crate) fn reported(answer: Reported) {
 }
 
 // What collect answered of a write.
-pub(crate) fn collected(answer: Collected) {
+fn collected(answer: Collected) {
     tell(script::INDENT);
     match answer {
         Collected::Steps(steps) => say(script::COLLECTED, steps, 0, 0, 0),
@@ -124,19 +136,8 @@ pub(crate) fn collected(answer: Collected) {
     }
 }
 
-// What admit answered of a read of one block.
-pub(crate) fn asked(block: u64, answer: Admitted, g: u64) {
-    match answer {
-        Admitted::Taken(i) => {
-            say(script::ASKED, block, i, 0, 0);
-            graph(g);
-        }
-        Admitted::Refused(number) => refused(number),
-    }
-}
-
-// What collect answered of that read, what came back, and whether it is what was sent.
-pub(crate) fn heard(answer: Collected, block: &[u8], same: bool) {
+// What collect answered of a read, what came back, and whether it is what was sent.
+fn heard(answer: Collected, block: &[u8], same: bool) {
     match answer {
         Collected::Steps(steps) => {
             say(script::GIVES, steps, 0, 0, 0);
@@ -147,12 +148,23 @@ pub(crate) fn heard(answer: Collected, block: &[u8], same: bool) {
     }
 }
 
+// What collect answered, and whether what came back is what was sent; nothing is sent where the request was a write.
+pub(crate) fn given(answer: Collected, block: &[u8], sent: &[u8]) -> bool {
+    if sent.len() == 0 {
+        collected(answer);
+        return false;
+    }
+    let same = check::same(block, sent);
+    heard(answer, block, same);
+    same
+}
+
 // What a scan answered.
 pub(crate) fn scanned(answer: Scan) {
     tell(script::SCAN);
     match answer {
         Scan::Right => tell(script::RIGHT),
-        Scan::Disagrees { stripe, byte } => disagrees(stripe, byte),
+        Scan::Disagrees { stripe, byte } => say(script::DISAGREES, stripe, byte, 0, 0),
         Scan::Refused(number) => refused(number),
     }
 }

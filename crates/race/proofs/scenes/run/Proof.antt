@@ -1,8 +1,8 @@
--- `race::requests::run` is safe and ends: the measure is the number of turns that are left. Nothing has to hold from turn to turn.
+-- `race::scenes::run` is safe and ends: the measure is the number of turns that are left. Nothing has to hold from turn to turn.
 -- Assumes nothing.
 use borrow.Author.Needs.{needs}
-use Rattle.race.proofs.requests.run.Statement.{statement}
-use Rattle.race.proofs.requests.run.Tie as tie
+use Rattle.race.proofs.scenes.run.Statement.{statement}
+use Rattle.race.proofs.scenes.run.Tie as tie
 
 abbrev Inv-loop : tie.InvT-loop
 Inv-loop i most aloud now₀ left₀ now left = Unit {0}
