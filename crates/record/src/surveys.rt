@@ -1,12 +1,10 @@
 // The survey of a table: made record by record, and asked for a stripe.
 ghost use mathlib.Core.Path.{_≡_};
 ghost use Prim.Native.Nat.{_≤_};
-ghost use Rattle.record.specs.Life.{recordsOf};
 ghost use Rattle.record.specs.Seen.{looksAtMany, toSee, started, heldBefore, stillSound, stillFree, seen};
-ghost use Rattle.record.specs.Survey.{surveyOf, heldIn};
+ghost use Rattle.record.specs.Survey.{heldIn};
 use crate::Record;
 use crate::Survey;
-use crate::Table;
 use geometry::NO_STRIPE;
 use geometry::State;
 
@@ -115,22 +113,5 @@ impl Survey {
         ensures { λ r. ⌜ r ≡ heldIn self stripe ⌝ }
     {
         self.held_before(stripe, 8)
-    }
-}
-
-impl Table {
-    // What one look at it finds.
-    pub fn survey(self, state: State) -> Survey
-        ensures { λ r. ⌜ r ≡ surveyOf state (recordsOf self) ⌝ }
-    {
-        let top = Survey::to_see(state, self.len);
-        let mut survey = Survey::started(state, self.len);
-        let mut i: u64 = 0;
-        while i < top {
-            let r = self.at(i);
-            survey = survey.seen(state, i, r);
-            i += 1;
-        }
-        survey
     }
 }
