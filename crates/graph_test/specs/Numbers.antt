@@ -8,9 +8,9 @@ use Rattle.terms.specs.Lists.{tabulate}
 use Rattle.geometry.specs.declared.State.{State}
 use Rattle.graph.specs.declared.order.Judged.{Judged}
 use Rattle.graph.specs.Steps.{Step, rd, xr, wr, nil}
-use Rattle.record.specs.Marks.{marksOf}
-use Rattle.record.specs.declared.Marks.{Marks}
+use Rattle.record.specs.Survey.{surveyOf}
 use Rattle.record.specs.declared.Record.{Record}
+use Rattle.record.specs.declared.Survey.{Survey}
 
 -- a judgement of done steps: 0 wrong, 1 a step is wanting, 2 none is
 unfoldable pub judgedNumber : Judged → ℕ
@@ -57,6 +57,6 @@ recordFrom l i =
 unfoldable pub tableFrom : List ℕ → List Record
 tableFrom l = tabulate (length l / 8) (recordFrom l)
 
--- the marks of such a table in such a state
-unfoldable pub marksFrom : List ℕ → List ℕ → Marks
-marksFrom numbers all = marksOf (stateFrom numbers) (tableFrom all)
+-- what one look at such a table in such a state finds
+unfoldable pub surveyFrom : List ℕ → List ℕ → Survey
+surveyFrom numbers all = surveyOf (stateFrom numbers) (tableFrom all)

@@ -1,13 +1,12 @@
 // Tables, as slices of numbers: a state is six numbers, and zeros where the slice is too short; a record is eight.
 ghost use mathlib.Core.Path.{_≡_};
-ghost use Prim.Native.Nat.{_+_, _*_, _≤_, min};
+ghost use Prim.Native.Nat.{_+_, _*_, _≤_};
 ghost use lib.ListN.{length, getD};
-ghost use Rattle.record.specs.Marks.{soundMarks, heldMarks, freeMarks};
-ghost use Rattle.graph_test.specs.Numbers.{stateFrom, recordFrom, marksFrom};
-use geometry::NO_STRIPE;
+ghost use Rattle.record.specs.Survey.{heldIn};
+ghost use Rattle.graph_test.specs.Numbers.{stateFrom, recordFrom, surveyFrom};
 use geometry::State;
-use record::Marks;
 use record::Record;
+use record::Survey;
 
 // The number at i, and 0 past the end.
 fn at(numbers: &[u64], i: usize) -> u64
@@ -50,53 +49,42 @@ fn record(numbers: &[u64], i: usize) -> Record
     }
 }
 
-// At most eight.
-fn capped(len: usize) -> usize
-    ensures { λ r. ⌜ r ≡ min len 8 ⌝ }
-{
-    if len < 8 {
-        return len;
-    }
-    8
-}
-
-// The marks of the table of all whole records.
-fn marks(numbers: &[u64], all: &[u64]) -> Marks
-    ensures { λ r. ⌜ r ≡ marksFrom (now (numbers .entry)) (now (all .entry)) ⌝ }
+// What one look at the table of all whole records finds.
+fn survey(numbers: &[u64], all: &[u64]) -> Survey
+    ensures { λ r. ⌜ r ≡ surveyFrom (now (numbers .entry)) (now (all .entry)) ⌝ }
 {
     let state = state(numbers);
-    let len = all.len() / 8;
-    let top = capped(len);
-    let mut marks = [NO_STRIPE; 8];
-    let mut i = 0;
+    let len = (all.len() / 8) as u64;
+    let top = Survey::to_see(state, len);
+    let mut survey = Survey::started(state, len);
+    let mut i: u64 = 0;
     while i < top {
-        let r = record(all, i);
-        marks[i] = r.mark(state);
+        let r = record(all, i as usize);
+        survey = survey.seen(state, i, r);
         i += 1;
     }
-    Marks {
-        marks,
-        len: len as u64,
-    }
+    survey
 }
 
 #[no_mangle]
 pub extern "C" fn table_test_sound(numbers: &[u64], all: &[u64]) -> bool
-    ensures { λ r. ⌜ r ≡ soundMarks (marksFrom (now (numbers .entry)) (now (all .entry))) ⌝ }
+    ensures { λ r. ⌜ r ≡ surveyFrom (now (numbers .entry)) (now (all .entry)) .sound ⌝ }
 {
-    marks(numbers, all).are_sound()
+    let survey = survey(numbers, all);
+    survey.sound
 }
 
 #[no_mangle]
 pub extern "C" fn table_test_lowest_free(numbers: &[u64], all: &[u64]) -> u64
-    ensures { λ r. ⌜ r ≡ freeMarks (marksFrom (now (numbers .entry)) (now (all .entry))) ⌝ }
+    ensures { λ r. ⌜ r ≡ surveyFrom (now (numbers .entry)) (now (all .entry)) .free ⌝ }
 {
-    marks(numbers, all).lowest_free()
+    let survey = survey(numbers, all);
+    survey.free
 }
 
 #[no_mangle]
 pub extern "C" fn table_test_held(numbers: &[u64], all: &[u64], stripe: u64) -> bool
-    ensures { λ r. ⌜ r ≡ heldMarks (marksFrom (now (numbers .entry)) (now (all .entry))) stripe ⌝ }
+    ensures { λ r. ⌜ r ≡ heldIn (surveyFrom (now (numbers .entry)) (now (all .entry))) stripe ⌝ }
 {
-    marks(numbers, all).is_held(stripe)
+    survey(numbers, all).is_held(stripe)
 }

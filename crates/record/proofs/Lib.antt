@@ -6,7 +6,6 @@ pub mod Loops
 pub mod Clashes
 pub mod Eight
 pub mod Filling
-pub mod Marked
 pub mod Clauses
 pub mod Soundness
 pub mod Surveyed

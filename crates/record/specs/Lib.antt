@@ -2,7 +2,6 @@
 pub mod Life
 pub mod Sound
 pub mod Asked
-pub mod Marks
 pub mod Survey
 pub mod Seen
 pub mod Look

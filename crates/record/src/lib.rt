@@ -1,11 +1,10 @@
-// The request record by value, the table of up to eight of them, its survey and its marks.
+// The request record by value, the table of up to eight of them, and what one look at either finds.
 // Assumes nothing.
 pub use life::admitted;
 pub use life::free;
 pub use sound::legal_mask;
 
 mod life;
-mod marking;
 mod sound;
 mod surveys;
 mod tables;
@@ -32,12 +31,6 @@ pub struct Record {
 // A table by value: its records, of which the first len count.
 pub struct Table {
     pub records: [Record; 8],
-    pub len: u64,
-}
-
-// The marks of a table: a number for each of its records, of which the first len count.
-pub struct Marks {
-    pub marks: [u64; 8],
     pub len: u64,
 }
 

@@ -6,7 +6,6 @@ ghost use lib.Dec.{leb};
 ghost use Rattle.record.specs.Asked.{fewIn, soundRecordIn, heldStripe};
 ghost use Rattle.record.specs.Life.{isFree, chosenAt, missingIn};
 ghost use Rattle.record.specs.Look.{found, nothing, lookOf};
-ghost use Rattle.record.specs.Marks.{markOf};
 ghost use Rattle.record.specs.Sound.{allZero, legalMask, legalRecord, legalChosen};
 use crate::Look;
 use crate::Record;
@@ -14,12 +13,6 @@ use crate::life::units;
 use geometry::NO_STRIPE;
 use geometry::NONE;
 use geometry::State;
-
-// A free record's mark, and that of one that is not sound.
-
-pub(crate) const FREE: u64 = 1025;
-
-pub(crate) const UNSOUND: u64 = 1026;
 
 // A legal mask of n units: not zero, and no bit at n or above.
 pub fn legal_mask(n: u64, mask: u64) -> bool
@@ -200,21 +193,5 @@ impl Record {
             return self.stripe;
         }
         NO_STRIPE
-    }
-
-    // The record's mark: its stripe where it is open, else whether it is finished, free, or not sound.
-    pub fn mark(self, state: State) -> u64
-        ensures { λ r. ⌜ r ≡ markOf state self ⌝ }
-    {
-        if self.phase == 0 {
-            if self.all_zero() {
-                return FREE;
-            }
-            return UNSOUND;
-        }
-        if !self.is_sound(state) {
-            return UNSOUND;
-        }
-        self.held_stripe()
     }
 }

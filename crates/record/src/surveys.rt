@@ -4,12 +4,10 @@ ghost use mathlib.Core.Path.{_≡_};
 ghost use Prim.Native.Nat.{_≤_, _<_};
 ghost use lib.ListN.{set};
 ghost use Rattle.record.specs.Asked.{soundRecordIn};
-ghost use Rattle.record.specs.Life.{recordsOf};
 ghost use Rattle.record.specs.Seen.{looksAtMany, toSee, started, heldBefore, stillFree, seen};
-ghost use Rattle.record.specs.Survey.{surveyOf, heldIn};
+ghost use Rattle.record.specs.Survey.{heldIn};
 use crate::Record;
 use crate::Survey;
-use crate::Table;
 use geometry::NO_STRIPE;
 use geometry::State;
 
@@ -134,22 +132,5 @@ impl Survey {
         ensures { λ r. ⌜ r ≡ heldIn self stripe ⌝ }
     {
         self.held_before(stripe, 8)
-    }
-}
-
-impl Table {
-    // What one look at it finds.
-    pub fn survey(self, state: State) -> Survey
-        ensures { λ r. ⌜ r ≡ surveyOf state (recordsOf self) ⌝ }
-    {
-        let top = Survey::to_see(state, self.len);
-        let mut survey = Survey::started(state, self.len);
-        let mut i: u64 = 0;
-        while i < top {
-            let r = self.at(i);
-            survey = survey.seen(state, i, r);
-            i += 1;
-        }
-        survey
     }
 }
