@@ -3,7 +3,7 @@
 use Prim.Native.Nat.{ℕ, _^_, _<_}
 use mathlib.Core.Bool.{Bool, true, false, not, _&&_, _||_}
 use mathlib.Core.List.{List, _++_}
-use mathlib.Core.Path.{_≡_, refl, sym, _∙_}
+use mathlib.Core.Path.{_≡_, refl, sym, ap, _∙_}
 use native.Mathlib.Omega.{arith}
 use borrow.Author.Tests.{le-leb, leb-false, eqb-true, ltb-true, ltb-false, not-false, ne-eqb}
 use lib.Dec.{ltb, leb, eqb}
@@ -16,16 +16,21 @@ use Rattle.geometry.specs.Store.{legalState, imageWrong, workWrong, imageSize, 
 use Rattle.geometry.specs.declared.State.{State}
 use Rattle.geometry.proofs.Bounds.{legal-bounds, bounds-legal}
 use Rattle.geometry.proofs.Lengths.{state-bounds, image-length, work-length}
-use Rattle.graph.specs.Asked.{fewUnits}
+use Rattle.graph.specs.Asked.{fewUnits, stepSet, readyBy}
+use Rattle.graph.specs.Steps.{Step, stepOf}
+use Rattle.graph.proofs.Forerunners.{ready-of}
 use Rattle.graph.specs.Sums.{sumsToRead}
-use Rattle.record.specs.Asked.{fewIn, readyIn, steppedOr, afreshOr}
-use Rattle.record.specs.Life.{isOpen, isFinished, isWrite, isFree, unitsOf, chosenAt, stepped, afresh}
+use Rattle.record.specs.Asked.{fewIn, soundRecordIn}
+use Rattle.record.specs.Life.{isOpen, isFinished, isWrite, isFree, unitsOf, chosenAt, missingIn, stepped, afresh}
+use Rattle.record.specs.Look.{lookOf, found, afterStep, afterChoice}
+use Rattle.record.specs.declared.Look.{Look}
 use Rattle.record.specs.Sound.{soundRecord, legalMask}
 use Rattle.record.specs.declared.Record.{Record}
 use Rattle.record.specs.declared.Survey.{Survey}
+use Rattle.record.proofs.Looks.{look-found, after-step-is, after-choice-is}
 use Rattle.record.proofs.Soundness as soundness
 use Rattle.array.specs.Lent.{tableWrong, lentRows, unitBytes}
-use Rattle.array.specs.Premises.{Keeping, Standing}
+use Rattle.array.specs.Premises.{Keeping, Standing, readBy}
 use Rattle.array.specs.Refusals.{admitRefusal, admitRows, stepRefusal, stepRows, collectRefusal, collectRows, payloadWrong, resultShort, stepReady}
 use Rattle.array.proofs.Choices.{choose-two, choose-some}
 use Rattle.array.proofs.Lent.{passed-rows}
@@ -41,10 +46,10 @@ module _ (st : State) (b : beyondState st ≡ false) where
   pub few-units : fewIn st ≡ true
   few-units = few-legal st legal-state
 
--- whether a step is ready, as the code asks
-pub ready-is : (st : State) (r : Record) (k : ℕ) → beyondState st ≡ false → readyIn st r k ≡ stepReady st r k
-unfolding readyIn stepReady
-ready-is st r k b = rw (few-units st b)
+-- whether a record is sound, as the code asks
+pub sound-within : (st : State) (r : Record) → beyondState st ≡ false → soundRecordIn st r ≡ soundRecord st r
+unfolding soundRecordIn
+sound-within st r b = rw (few-units st b)
 
 -- a mask that is legal has units only
 pub mask-below : (n mask : ℕ) → legalMask n mask ≡ true → mask < 2 ^ n
@@ -64,16 +69,46 @@ chosen-below st r l s o g =
     let x = choose-two (unitsOf st) (isWrite r) (r .mask) (chosenAt st r) (sym (a .right-graph) ∙ eqb-true (r .graph) 2 g) in
     omega arith
 
-module _ (st : State) (v : Survey) (r : Record) (work image : List ℕ) (i k : ℕ) where
-  -- an accepted step: it can be done, and the record after it is the paper's
-  pub record Stepped : Type 0 where
-    pub standing : Standing st work image i r
-    pub done : steppedOr st r k ≡ stepped st r k
-    pub afresh : afreshOr st r ≡ afresh st r
+-- what a look at a sound record that is open finds
+module _ (st : State) (r : Record) (look : Look) (is : look ≡ lookOf st r) (b : beyondState st ≡ false) (s : soundRecord st r ≡ true) (o : isOpen r ≡ true) where
+  is-found : look ≡ found st r (missingIn st (r .stripe))
+  is-found = is ∙ look-found st r (sound-within st r b ∙ s) (busy r 1 (λ z. omega arith) o)
 
-  pub step-accepted : stepRefusal st v r work image i k ≡ 0 → Stepped
+  x-found : look .x ≡ chosenAt st r
+  unfolding found
+  x-found = ap (λ (l : Look). l .x) is-found
+
+  out-found : look .out ≡ missingIn st (r .stripe)
+  unfolding found
+  out-found = ap (λ (l : Look). l .out) is-found
+
+  steps-found : look .steps ≡ stepSet (unitsOf st) (r .graph) (r .mask) (chosenAt st r)
+  unfolding found
+  steps-found = ap (λ (l : Look). l .steps) is-found
+
+  reads-found : look .reads ≡ readBy st r
+  unfolding found
+  reads-found = ap (λ (l : Look). l .reads) is-found
+
+  pub look-ready : (k : ℕ) (t : Step) → t ≡ stepOf (unitsOf st) k
+      → (fewIn st && readyBy (unitsOf st) (r .graph) (look .steps) (look .reads) (r .done) k t) ≡ stepReady st r k
+  unfolding stepReady
+  look-ready k t e =
+      rw (few-units st b) (ready-of (unitsOf st) (r .graph) (r .mask) (chosenAt st r) (r .done) k (look .steps) (look .reads) t steps-found reads-found e)
+
+module _ (st : State) (v : Survey) (r : Record) (work image : List ℕ) (i k : ℕ) where
+  -- an accepted step, by what a look at the record finds: it can be done, and the record after it is the paper's
+  pub record Stepped (look : Look) : Type 0 where
+    pub standing : Standing st work image i r
+    pub x-is : look .x ≡ chosenAt st r
+    pub out-is : look .out ≡ missingIn st (r .stripe)
+    pub reads-are : look .reads ≡ readBy st r
+    pub done : afterStep r k (look .steps) ≡ stepped st r k
+    pub afresh : afterChoice st r (look .out) ≡ afresh st r
+
+  pub step-accepted : (look : Look) → look ≡ lookOf st r → stepRefusal st v r work image i k ≡ 0 → Stepped look
   unfolding stepRefusal stepReady stepRows lentRows giving every Failed
-  step-accepted e =
+  step-accepted look is e =
       let iw = imageWrong st image in
       let tw = tableWrong st (v .len) in
       let ww = workWrong st work in
@@ -94,8 +129,11 @@ module _ (st : State) (v : Survey) (r : Record) (work image : List ℕ) (i k : �
               image-right = image-length st image (or-false-left iw tw (or-false-left (iw || tw) ww (p .lengths)));
               x-below = chosen-below st r (legal-state st (p .limits)) sound o;
             };
-        done = soundness.stepped-is st r sound o few k (not-false _ (own .1 .1 .0));
-        afresh = soundness.afresh-is st r sound o few;
+        x-is = x-found st r look is (p .limits) sound o;
+        out-is = out-found st r look is (p .limits) sound o;
+        reads-are = reads-found st r look is (p .limits) sound o;
+        done = after-step-is st r sound o few k (look .steps) (steps-found st r look is (p .limits) sound o) (not-false _ (own .1 .1 .0));
+        afresh = after-choice-is st r sound o few (look .out) (out-found st r look is (p .limits) sound o);
       }
 
 -- a fresh choice names a graph

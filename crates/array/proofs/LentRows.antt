@@ -43,3 +43,6 @@ module _ (st : State) (wrong sound : Bool) where
 
       pub lent-long : wrong ≡ false
       lent-long = passed-rows st wrong sound failed .lengths
+
+      pub lent-sound : sound ≡ true
+      lent-sound = passed-rows st wrong sound failed .is-fine

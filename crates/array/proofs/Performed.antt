@@ -29,10 +29,10 @@ use Rattle.geometry.proofs.Places.{cardAt-below}
 use Rattle.geometry.proofs.Turns.{cardIn-is}
 use Rattle.graph.specs.Asked.{fewUnits}
 use Rattle.graph.specs.Steps.{Step, rd, xr, wr, nil, stepOf}
-use Rattle.graph.specs.Sums.{takesRead, takesNew, sumsToRead}
+use Rattle.graph.specs.Sums.{takesNew, sumsToRead}
 use Rattle.record.specs.Life.{chosenAt, unitsOf}
 use Rattle.record.specs.declared.Record.{Record}
-use Rattle.array.specs.Premises.{Standing, Within}
+use Rattle.array.specs.Premises.{Standing, Within, readBy}
 use Rattle.array.specs.Stepping.{cellOf, workAfter, imageAfter, sumByte, sumAt}
 use Rattle.array.specs.Sums.{takenIf, blockSum}
 
@@ -105,13 +105,10 @@ module _ (st : State) (i : ℕ) (r : Record) (work image : List ℕ) (k : Standi
 
   -- the sets that the sum takes, as the code makes them
   abbrev reads : ℕ
-  reads = setOf (unitsOf st + 1) (takesRead (unitsOf st) (r .graph) (r .mask) (chosenAt st r))
+  reads = readBy st r
 
   abbrev news : ℕ
   news = setOf (unitsOf st + 1) (takesNew (unitsOf st) (r .graph) (r .mask))
-
-  pub reads-are : (set x : ℕ) → set ≡ cond (fewUnits (unitsOf st)) (setOf (unitsOf st + 1) (takesRead (unitsOf st) (r .graph) (r .mask) x)) 0 → x ≡ chosenAt st r → set ≡ reads
-  reads-are set x e is = rw (few, is) at e
 
   pub news-are : (set : ℕ) → set ≡ cond (fewUnits (unitsOf st)) news 0 → set ≡ news
   news-are set e = rw few at e

@@ -15,8 +15,8 @@ ghost use Rattle.record.specs.Survey.{surveyOf};
 use crate::answers::Collected;
 use crate::answers::Collection;
 use crate::places::read_at;
+use crate::refusals::both_sound;
 use crate::refusals::lent_refusal;
-use crate::refusals::sound_with;
 use crate::refusals::stores_wrong;
 use crate::refusals::unit_bytes;
 use block::carry;
@@ -71,7 +71,7 @@ fn collect_refusal(
         return 1;
     }
     let wrong = stores_wrong(state, survey.len, work);
-    let sound = sound_with(state, survey.sound, r);
+    let sound = both_sound(survey.sound, r.is_sound(state));
     let first = lent_refusal(state, wrong, sound);
     if first != 0 {
         return first;

@@ -4,7 +4,7 @@
 ghost use mathlib.Core.Path.{_≡_};
 ghost use mathlib.Core.Bool.{true};
 ghost use Prim.Native.Nat.{_<_};
-ghost use Rattle.array.specs.Premises.{Standing, Within};
+ghost use Rattle.array.specs.Premises.{Standing, Within, readBy};
 ghost use Rattle.array.specs.Stepping.{workAfter, imageAfter, sumAt};
 ghost use Rattle.graph.specs.Asked.{actionStep};
 ghost use Rattle.graph.specs.Steps.{rd, xr, wr};
@@ -22,7 +22,6 @@ use geometry::card_at;
 use graph::Action;
 use graph::sums_to_read;
 use graph::taken_news;
-use graph::taken_reads;
 use record::Record;
 
 // Copies the card's block of a position to the record's read block.
@@ -62,35 +61,34 @@ fn sum_at(state: State, i: u64, r: Record, x: u64) -> usize
     write_at(state, i, state.cards - 1)
 }
 
-// Adds up the blocks that the record's graph takes.
-fn sum(state: State, i: u64, r: Record, work: &mut [u8], image: &[u8])
-    requires { ⌜ Standing state (now work) (now image) i r ⌝ }
+// Adds up the blocks that the record's graph takes; X and the positions that it reads are given.
+fn sum(state: State, i: u64, r: Record, x: u64, reading: u64, work: &mut [u8], image: &[u8])
+    requires { ⌜ (Standing state (now work) (now image) i r) × (x ≡ chosenAt state r) × (reading ≡ readBy state r) ⌝ }
     ensures { λ _. ⌜ now (work .exit) ≡ workAfter state i r xr (now (work .entry)) (now (image .entry)) ⌝ }
 {
-    let n = state.cards - 1;
-    let x = r.chosen_at(state);
     let at = sum_at(state, i, r, x);
-    let reads = taken_reads(n, r.graph, r.mask, x);
-    let news = taken_news(n, r.graph, r.mask);
-    sum_blocks(state, i, reads, news, at, work);
+    let news = taken_news(state.cards - 1, r.graph, r.mask);
+    sum_blocks(state, i, reading, news, at, work);
 }
 
-// Does a step of a record: the work store and the image after it.
+// Does a step of a record: the work store and the image after it. X and the positions that the record's graph reads are given.
 pub(crate) fn perform(
     state: State,
     i: u64,
     r: Record,
+    x: u64,
+    reading: u64,
     action: Action,
     work: &mut [u8],
     image: &mut [u8],
 )
-    requires { ⌜ (Standing state (now work) (now image) i r) × Within (state .cards) (actionStep action) ⌝ }
+    requires { ⌜ (Standing state (now work) (now image) i r) × Within (state .cards) (actionStep action) × (x ≡ chosenAt state r) × (reading ≡ readBy state r) ⌝ }
     ensures works { λ _. ⌜ now (work .exit) ≡ workAfter state i r (actionStep action) (now (work .entry)) (now (image .entry)) ⌝ }
     ensures images { λ _. ⌜ now (image .exit) ≡ imageAfter state i r (actionStep action) (now (work .entry)) (now (image .entry)) ⌝ }
 {
     match action {
         Action::Read(p) => read(state, i, r, p, work, image),
-        Action::Sum => sum(state, i, r, work, image),
+        Action::Sum => sum(state, i, r, x, reading, work, image),
         Action::Write(p) => write(state, i, r, p, work, image),
         Action::Nothing => {}
     }

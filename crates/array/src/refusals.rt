@@ -7,11 +7,9 @@ ghost use Rattle.terms.specs.Reply.{firstRow};
 ghost use Rattle.array.specs.Lent.{tableWrong, lentRows, unitBytes};
 ghost use Rattle.geometry.specs.Limits.{beyondState};
 ghost use Rattle.geometry.specs.Store.{legalState, imageWrong, workWrong};
-ghost use Rattle.record.specs.Sound.{soundRecord};
 use crate::places::image_size;
 use crate::places::work_size;
 use geometry::State;
-use record::Record;
 
 // Whether the image is not of its length.
 pub(crate) fn image_wrong(state: State, image: &[u8]) -> bool
@@ -43,15 +41,14 @@ pub(crate) fn lent_wrong(state: State, len: u64, work: &[u8], image: &[u8]) -> b
     stores_wrong(state, len, work)
 }
 
-// Whether the table is sound, by a survey that says so or not, and with it the record that the call is about.
-pub(crate) fn sound_with(state: State, sound: bool, r: Record) -> bool
-    requires { ⌜ legalState state ≡ true ⌝ }
-    ensures { λ s. ⌜ s ≡ (sound && soundRecord state r) ⌝ }
+// Whether the table is sound, by its survey, and the record that the call is about.
+pub(crate) fn both_sound(table: bool, record: bool) -> bool
+    ensures { λ r. ⌜ r ≡ (table && «record») ⌝ }
 {
-    if !sound {
+    if !table {
         return false;
     }
-    r.is_sound(state)
+    record
 }
 
 // Refusals 2 to 4 of a call on the table, whose state is within its limits; 0: none.

@@ -6,39 +6,56 @@ ghost use Rattle.array.specs.Outcomes.{SteppingIs};
 ghost use Rattle.array.specs.Refusals.{stepRefusal};
 ghost use Rattle.array.specs.Stepping.{steppingBy, meetsOut};
 ghost use Rattle.graph.specs.Asked.{actionStep};
-ghost use Rattle.record.specs.Life.{free, recordsOf};
+ghost use Rattle.graph.specs.Steps.{stepOf};
+ghost use Rattle.record.specs.Life.{free, recordsOf, unitsOf};
+ghost use Rattle.record.specs.Look.{lookOf};
 ghost use Rattle.record.specs.Survey.{surveyOf};
 use crate::answers::Stepped;
 use crate::answers::Stepping;
 use crate::performs::perform;
+use crate::refusals::both_sound;
 use crate::refusals::lent_refusal;
 use crate::refusals::lent_wrong;
-use crate::refusals::sound_with;
 use geometry::State;
 use graph::Action;
+use graph::ready_by;
 use graph::step_of;
+use record::Look;
 use record::Record;
 use record::Survey;
 use record::Table;
 use record::free;
 
-// The number by which step is refused; 0: none.
+// The data units of a stripe, n = N-1.
+fn units(state: State) -> u64
+    ensures { λ n. ⌜ n ≡ unitsOf state ⌝ }
+{
+    if state.cards == 0 {
+        return 0;
+    }
+    state.cards - 1
+}
+
+// The number by which step is refused; 0: none. What a look at the record finds is given, and what step k does.
 fn step_refusal(
     state: State,
     survey: Survey,
     r: Record,
+    look: Look,
+    action: Action,
     work: &[u8],
     image: &[u8],
     i: u64,
     k: u64,
 ) -> u64
+    requires { ⌜ (look ≡ lookOf state r) × (actionStep action ≡ stepOf (unitsOf state) k) ⌝ }
     ensures { λ n. ⌜ n ≡ stepRefusal state survey r (now (work .entry)) (now (image .entry)) i k ⌝ }
 {
     if state.beyond() {
         return 1;
     }
     let wrong = lent_wrong(state, survey.len, work, image);
-    let sound = sound_with(state, survey.sound, r);
+    let sound = both_sound(survey.sound, look.sound);
     let first = lent_refusal(state, wrong, sound);
     if first != 0 {
         return first;
@@ -49,7 +66,15 @@ fn step_refusal(
     if r.phase != 1 {
         return 10;
     }
-    if !r.is_ready(state, k) {
+    if !ready_by(
+        state.cards - 1,
+        r.graph,
+        look.steps,
+        look.reads,
+        r.done,
+        k,
+        action,
+    ) {
         return 11;
     }
     0
@@ -79,7 +104,9 @@ pub fn step_by(
 ) -> Stepping
     ensures { λ o. ⌜ SteppingIs (steppingBy state survey r (now (work .entry)) (now (image .entry)) i k) o (now (work .exit)) (now (image .exit)) ⌝ }
 {
-    let number = step_refusal(state, survey, r, work, image, i, k);
+    let look = r.look(state);
+    let action = step_of(units(state), k);
+    let number = step_refusal(state, survey, r, look, action, work, image, i, k);
     if number != 0 {
         return Stepping {
             answer: Stepped::Refused(number),
@@ -87,9 +114,8 @@ pub fn step_by(
             record: free(),
         };
     }
-    let action = step_of(state.cards - 1, k);
-    if meets_out(action, state.missing_in(r.stripe)) {
-        let chosen = r.afresh(state);
+    if meets_out(action, look.out) {
+        let chosen = r.after_choice(state, look.out);
         let graph = chosen.graph;
         return Stepping {
             answer: Stepped::Chosen(graph),
@@ -97,11 +123,11 @@ pub fn step_by(
             record: chosen,
         };
     }
-    perform(state, i, r, action, work, image);
+    perform(state, i, r, look.x, look.reads, action, work, image);
     Stepping {
         answer: Stepped::Done,
         place: i,
-        record: r.stepped(state, k),
+        record: r.after_step(k, look.steps),
     }
 }
 

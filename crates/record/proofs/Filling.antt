@@ -56,6 +56,21 @@ module _ {ℓ} {A : Type ℓ} where
           (λ a. let b = ltb-false k i a in entry-past f d i k b ∙ sym (entry-past f d (i + 1) k (omega arith)))
           (truth (ltb k i))
 
+  -- one that is the same in any case
+  pub filling-same : (n : ℕ) (f : ℕ → A) (d : A) (i : ℕ) → f i ≡ d → filling n f d i ≡ filling n f d (i + 1)
+  unfolding filling entry
+  filling-same n f d i e =
+      tabulate-cong n (entry f d i) (entry f d (i + 1))
+      (λ k l.
+      ⊎-elim (λ a. let b = ltb-true k i a in entry-at f d i k b ∙ sym (entry-at f d (i + 1) k (omega arith)))
+      (λ a.
+      let b = ltb-false k i a in
+      entry-past f d i k b
+      ∙ ⊎-elim (λ q. let s = eqb-true k i q in sym (entry-at f d (i + 1) k (omega arith) ∙ ap f s ∙ e))
+      (λ q. let s = eqb-false k i q in sym (entry-past f d (i + 1) k (omega arith)))
+      (truth (eqb k i)))
+      (truth (ltb k i)))
+
   -- what is filled in is the list of a rule
   pub filling-is : (n i : ℕ) (f : ℕ → A) (d : A) (g : ℕ → A) → ((k : ℕ) → k < n → k < i → f k ≡ g k)
       → ((k : ℕ) → k < n → i ≤ k → d ≡ g k) → filling n f d i ≡ tabulate n g

@@ -22,7 +22,7 @@ use Rattle.graph.proofs.Few.{few}
 use Rattle.graph.proofs.Rules.{both-ways}
 use Rattle.record.proofs.Clashes.{eqb-sym, apart-elim, apart-intro}
 use Rattle.record.proofs.Clauses.{open-not-free}
-use Rattle.record.proofs.Filling.{entry, entry-at, filling, filling-more, filling-is}
+use Rattle.record.proofs.Filling.{entry, entry-at, filling, filling-more, filling-same, filling-is}
 use Rattle.record.proofs.Loops.{all-every}
 use Rattle.record.proofs.Same.{same-survey}
 use Rattle.record.proofs.Soundness.{sound-elim, sound-record}
@@ -209,9 +209,16 @@ module _ (st : State) (l : List Record) where
     unfolding surveyTo
     same-len i = refl
 
-    held-more : (i : ℕ) → i < 8 → set (surveyTo i .held) i (heldStripe (rec i)) ≡ surveyTo (suc i) .held
-    unfolding surveyTo
-    held-more i h = rw (← add-one i) (filling-more 8 (λ k. heldStripe (rec k)) noStripe i h)
+    held-more : (i : ℕ) → i < 8 → cond (isOpen (rec i)) (set (surveyTo i .held) i (rec i .stripe)) (surveyTo i .held) ≡ surveyTo (suc i) .held
+    unfolding surveyTo heldStripe
+    held-more i h = rw (← add-one i) (go (isOpen (rec i)) refl)
+      where
+        f : ℕ → ℕ
+        f k = heldStripe (rec k)
+
+        go : (b : Bool) → isOpen (rec i) ≡ b → cond b (set (filling 8 f noStripe i) i (rec i .stripe)) (filling 8 f noStripe i) ≡ filling 8 f noStripe (i + 1)
+        go true o = ap (set (filling 8 f noStripe i) i) (sym (rw o)) ∙ filling-more 8 f noStripe i h
+        go false o = filling-same 8 f noStripe i (rw o)
 
     free-more : (i : ℕ) → i < length l → stillFree (surveyTo i) i (rec i) ≡ surveyTo (suc i) .free
     unfolding surveyTo stillFree

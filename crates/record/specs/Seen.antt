@@ -7,7 +7,7 @@ use lib.Dec.{ltb, leb, eqb}
 use lib.ListN.{length, getD, set, replicate}
 use Rattle.terms.specs.Sets.{allBelow}
 use Rattle.geometry.specs.declared.State.{State}
-use Rattle.record.specs.Asked.{noStripe, heldStripe, soundRecordIn}
+use Rattle.record.specs.Asked.{noStripe, soundRecordIn}
 use Rattle.record.specs.Life.{free, isFree, isOpen}
 use Rattle.record.specs.declared.Survey.{Survey}
 use Rattle.record.specs.declared.Record.{Record}
@@ -36,14 +36,14 @@ stillSound st v i r = v .sound && (soundRecordIn st r && not (isOpen r && heldBe
 unfoldable pub stillFree : Survey → ℕ → Record → ℕ
 stillFree v i r = cond (isFree r && eqb (v .free) (v .len)) i (v .free)
 
--- the survey after record r at i, where there is such a place
+-- the survey after record r at i, where there is such a place; only an open one is noted among the stripes held
 unfoldable pub seen : State → Survey → ℕ → Record → Survey
 seen st v i r =
     cond (ltb i 8)
     (record {
       len = v .len;
       sound = stillSound st v i r;
-      held = set (v .held) i (heldStripe r);
+      held = cond (isOpen r) (set (v .held) i (r .stripe)) (v .held);
       free = stillFree v i r;
     })
     v

@@ -1,8 +1,11 @@
 // The survey of a table: made record by record, and asked for a stripe.
+ghost use mathlib.Core.Bool.{not, _&&_};
 ghost use mathlib.Core.Path.{_≡_};
-ghost use Prim.Native.Nat.{_≤_};
+ghost use Prim.Native.Nat.{_≤_, _<_};
+ghost use lib.ListN.{set};
+ghost use Rattle.record.specs.Asked.{soundRecordIn};
 ghost use Rattle.record.specs.Life.{recordsOf};
-ghost use Rattle.record.specs.Seen.{looksAtMany, toSee, started, heldBefore, stillSound, stillFree, seen};
+ghost use Rattle.record.specs.Seen.{looksAtMany, toSee, started, heldBefore, stillFree, seen};
 ghost use Rattle.record.specs.Survey.{surveyOf, heldIn};
 use crate::Record;
 use crate::Survey;
@@ -21,6 +24,16 @@ fn looks_at(state: State, len: u64) -> bool
         return false;
     }
     state.stripes <= 1024
+}
+
+// What was right so far, where the record is sound.
+fn so_far(right: bool, state: State, r: Record) -> bool
+    ensures { λ b. ⌜ b ≡ (right && soundRecordIn state r) ⌝ }
+{
+    if !right {
+        return false;
+    }
+    r.is_sound(state)
 }
 
 impl Survey {
@@ -64,23 +77,6 @@ impl Survey {
         false
     }
 
-    // The table is sound as far as record r at i.
-    fn still_sound(self, state: State, i: usize, r: Record) -> bool
-        requires { ⌜ i ≤ 8 ⌝ }
-        ensures { λ b. ⌜ b ≡ stillSound state self i r ⌝ }
-    {
-        if !self.sound {
-            return false;
-        }
-        if !r.is_sound(state) {
-            return false;
-        }
-        if r.phase != 1 {
-            return true;
-        }
-        !self.held_before(r.stripe, i)
-    }
-
     // The lowest free record as far as record r at i.
     fn still_free(self, i: u64, r: Record) -> u64
         ensures { λ n. ⌜ n ≡ stillFree self i r ⌝ }
@@ -94,6 +90,28 @@ impl Survey {
         i
     }
 
+    // What was right so far, where no record before i holds the stripe.
+    fn alone(self, right: bool, stripe: u64, i: usize) -> bool
+        requires { ⌜ i ≤ 8 ⌝ }
+        ensures { λ b. ⌜ b ≡ (right && not (heldBefore self stripe i)) ⌝ }
+    {
+        if !right {
+            return false;
+        }
+        !self.held_before(stripe, i)
+    }
+
+    // The survey after an open record at i on the stripe, with all right so far.
+    fn seen_open(mut self, right: bool, stripe: u64, i: usize) -> Survey
+        requires { ⌜ i < 8 ⌝ }
+        ensures { λ v. ⌜ v ≡ record { len = self .len; sound = right && not (heldBefore self stripe i); held = set (self .held) i stripe; free = self .free } ⌝ }
+    {
+        let sound = self.alone(right, stripe, i);
+        self.held[i] = stripe;
+        self.sound = sound;
+        self
+    }
+
     // The survey after record r at i; as it was where there is no such place.
     pub fn seen(mut self, state: State, i: u64, r: Record) -> Survey
         ensures { λ v. ⌜ v ≡ seen state self i r ⌝ }
@@ -101,11 +119,12 @@ impl Survey {
         if i > 7 {
             return self;
         }
-        let place = i as usize;
-        let sound = self.still_sound(state, place, r);
+        let right = so_far(self.sound, state, r);
+        if r.phase == 1 {
+            return self.seen_open(right, r.stripe, i as usize);
+        }
         let free = self.still_free(i, r);
-        self.held[place] = r.held_stripe();
-        self.sound = sound;
+        self.sound = right;
         self.free = free;
         self
     }

@@ -1,7 +1,7 @@
 -- `array::collects::collect_refusal` meets its contract: each `return` is the first row whose test holds.
 -- Assumes nothing.
 use mathlib.Core.Bool.{Bool, false, _&&_, _||_}
-use mathlib.Core.Path.{_≡_, sym, ap₂, _∙_}
+use mathlib.Core.Path.{_≡_, sym, ap, ap₂, _∙_}
 use native.Mathlib.Omega.{arith}
 use borrow.Author.Tests.{eq-eqb, ne-eqb, le-leb, lt-leb}
 use denote.Ref.{now}
@@ -12,7 +12,7 @@ use Rattle.geometry.proofs.Lengths.{state-bounds}
 use Rattle.record.specs.Sound.{soundRecord}
 use Rattle.array.specs.Lent.{tableWrong, lentRows}
 use Rattle.array.specs.Refusals.{collectRefusal, collectRows, resultShort}
-use Rattle.array.proofs.Accepted.{legal-state}
+use Rattle.array.proofs.Accepted.{legal-state, sound-within}
 use Rattle.array.proofs.LentRows.{beyond-refuses, lent-refuses, lent-passes}
 use borrow.Author.Needs.{needs}
 use Rattle.array.proofs.collects.collect_refusal.Statement.{statement}
@@ -32,24 +32,32 @@ inside c = sym (c .before .beyond .ensures) ∙ c .if1 .left
 stores-wrong-requires : tie.Need-stores-wrong-requires
 stores-wrong-requires c κs = legal-state (c .before .before .before .before .args .state) (inside c)
 
-sound-with-requires : tie.Need-sound-with-requires
-sound-with-requires c κs = legal-state (c .before .before .before .before .before .args .state) (inside (c .before))
+is-sound-requires : tie.Need-is-sound-requires
+is-sound-requires c κs = search needs
+
+both-sound-requires : tie.Need-both-sound-requires
+both-sound-requires c κs = search needs
 
 lent-refusal-requires : tie.Need-lent-refusal-requires
-lent-refusal-requires c κs = inside (c .before .before)
+lent-refusal-requires c κs = inside (c .before .before .before)
+
+sound : (c : tie.After-both-sound) → let a = c .before .before .before .before .before .before .before .args in c .both-sound .result ≡ (a .survey .sound && soundRecord (a .state) (a .r))
+sound c =
+    let a = c .before .before .before .before .before .before .before .args in
+    c .both-sound .ensures ∙ ap (λ (b : Bool). a .survey .sound && b) (c .before .is-sound .ensures ∙ sound-within (a .state) (a .r) (inside (c .before .before .before)))
 
 -- rows 1 to 4; where none of them refuses the call's own are left
-lent : (c : tie.After-lent-refusal) → let a = c .before .before .before .before .before .before .before .args in
+lent : (c : tie.After-lent-refusal) → let a = c .before .before .before .before .before .before .before .before .args in
     c .lent-refusal .result
     ≡ firstRow
     (lentRows (a .state) (tableWrong (a .state) (a .survey .len) || workWrong (a .state) (now (a .work)))
     (a .survey .sound && soundRecord (a .state) (a .r)))
 lent c =
-    let a = c .before .before .before .before .before .before .before .args in
+    let a = c .before .before .before .before .before .before .before .before .args in
     c .lent-refusal .ensures
-    ∙ ap₂ (λ (w s : Bool). firstRow (lentRows (a .state) w s)) (c .before .before .stores-wrong .ensures) (c .before .sound-with .ensures)
+    ∙ ap₂ (λ (w s : Bool). firstRow (lentRows (a .state) w s)) (c .before .before .before .stores-wrong .ensures) (sound (c .before))
 
-own : (c : tie.Else2) → let a = c .before .before .before .before .before .before .before .before .args in
+own : (c : tie.Else2) → let a = c .before .before .before .before .before .before .before .before .before .args in
     collectRefusal (a .state) (a .survey) (a .r) (now (a .work)) (a .i) (now (a .result)) ≡ firstRow (collectRows (a .state) (a .r) (a .i) (now (a .result)))
 unfolding collectRefusal
 own c = lent-passes _ _ _ _ (lent (c .before)) (c .if2 .left) _
@@ -67,7 +75,7 @@ unfolding collectRows firstRow
 returns-4 c = sym (own (c .before .before .before .before) ∙ rw (lt-leb _ _ (c .before .before .if3 .left), ne-eqb _ _ (c .if4 .taken)))
 
 result-short-requires : tie.Need-result-short-requires
-result-short-requires c κs = omega (arith, state-bounds (c .before .before .before .before .before .before .before .before .before .before .before .before .args .state) (inside (c .before .before .before .before .before .before .before .before)))
+result-short-requires c κs = omega (arith, state-bounds (c .before .before .before .before .before .before .before .before .before .before .before .before .before .args .state) (inside (c .before .before .before .before .before .before .before .before .before)))
 
 returns-5 : tie.Need-returns-5
 unfolding collectRows resultShort firstRow
@@ -84,7 +92,8 @@ collect-refusal-spec =
     beyond-requires
     returns
     stores-wrong-requires
-    sound-with-requires
+    is-sound-requires
+    both-sound-requires
     lent-refusal-requires
     returns-2
     returns-3

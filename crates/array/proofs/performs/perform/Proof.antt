@@ -20,7 +20,7 @@ enum-told : tie.Need-enum-told
 enum-told c = search needs
 
 sum-requires : tie.Need-sum-requires
-sum-requires c κs = search needs
+sum-requires c κs = let s = c .before .before .before .before .before .before in (s .pre .0, s .pre .2, s .pre .3)
 
 enum-known-action-2 : tie.Need-enum-known-action-2
 enum-known-action-2 c = search needs

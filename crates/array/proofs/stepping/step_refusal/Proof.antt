@@ -1,19 +1,23 @@
 -- `array::stepping::step_refusal` meets its contract: each `return` is the first row whose test holds.
 -- Assumes nothing.
 use mathlib.Core.Bool.{Bool, true, false, _&&_, _||_}
-use mathlib.Core.Path.{_≡_, sym, ap₂, _∙_}
+use mathlib.Core.Path.{_≡_, sym, ap, ap₂, _∙_}
+use native.Mathlib.Omega.{arith}
 use borrow.Author.Tests.{eq-eqb, ne-eqb, le-leb, lt-leb}
 use denote.Ref.{now}
 use Rattle.terms.specs.Reply.{firstRow}
+use Rattle.terms.proofs.Rows.{and-right}
 use Rattle.geometry.specs.Limits.{beyondState}
 use Rattle.geometry.specs.Store.{imageWrong, workWrong}
 use Rattle.geometry.proofs.Flags.{fails, holds}
-use Rattle.record.specs.Asked.{readyIn}
+use Rattle.geometry.proofs.Lengths.{state-bounds}
 use Rattle.record.specs.Sound.{soundRecord}
+use Rattle.record.specs.declared.Look.{Look}
+use Rattle.record.proofs.Looks.{look-sound}
 use Rattle.array.specs.Lent.{tableWrong, lentRows}
 use Rattle.array.specs.Refusals.{stepRefusal, stepRows, stepReady}
-use Rattle.array.proofs.Accepted.{legal-state, ready-is}
-use Rattle.array.proofs.LentRows.{beyond-refuses, lent-refuses, lent-passes}
+use Rattle.array.proofs.Accepted.{legal-state, sound-within, look-ready}
+use Rattle.array.proofs.LentRows.{beyond-refuses, lent-refuses, lent-passes, lent-sound}
 use borrow.Author.Needs.{needs}
 use Rattle.array.proofs.stepping.step_refusal.Statement.{statement}
 use Rattle.array.proofs.stepping.step_refusal.Tie as tie
@@ -32,11 +36,19 @@ inside c = sym (c .before .beyond .ensures) ∙ c .if1 .left
 lent-wrong-requires : tie.Need-lent-wrong-requires
 lent-wrong-requires c κs = legal-state (c .before .before .before .before .args .state) (inside c)
 
-sound-with-requires : tie.Need-sound-with-requires
-sound-with-requires c κs = legal-state (c .before .before .before .before .before .args .state) (inside (c .before))
+both-sound-requires : tie.Need-both-sound-requires
+both-sound-requires c κs = search needs
 
 lent-refusal-requires : tie.Need-lent-refusal-requires
 lent-refusal-requires c κs = inside (c .before .before)
+
+-- the look tells whether the record is sound
+sound : (c : tie.After-both-sound) → let a = c .before .before .before .before .before .before .args in c .both-sound .result ≡ (a .survey .sound && soundRecord (a .state) (a .r))
+sound c =
+    let s = c .before .before .before .before .before .before in
+    let a = s .args in
+    c .both-sound .ensures
+    ∙ ap (λ (b : Bool). a .survey .sound && b) (ap (λ (l : Look). l .sound) (s .pre .0) ∙ look-sound (a .state) (a .r) ∙ sound-within (a .state) (a .r) (inside (c .before .before)))
 
 -- rows 1 to 4; where none of them refuses the call's own are left
 lent : (c : tie.After-lent-refusal) → let a = c .before .before .before .before .before .before .before .args in
@@ -47,7 +59,7 @@ lent : (c : tie.After-lent-refusal) → let a = c .before .before .before .befor
 lent c =
     let a = c .before .before .before .before .before .before .before .args in
     c .lent-refusal .ensures
-    ∙ ap₂ (λ (w s : Bool). firstRow (lentRows (a .state) w s)) (c .before .before .lent-wrong .ensures) (c .before .sound-with .ensures)
+    ∙ ap₂ (λ (w s : Bool). firstRow (lentRows (a .state) w s)) (c .before .before .lent-wrong .ensures) (sound (c .before))
 
 own : (c : tie.Else2) → let a = c .before .before .before .before .before .before .before .before .args in
     stepRefusal (a .state) (a .survey) (a .r) (now (a .work)) (now (a .image)) (a .i) (a .k) ≡ firstRow (stepRows (a .state) (a .r) (a .i) (a .k))
@@ -66,19 +78,28 @@ returns-4 : tie.Need-returns-4
 unfolding stepRows firstRow
 returns-4 c = sym (own (c .before .before .before .before) ∙ rw (lt-leb _ _ (c .before .before .if3 .left), ne-eqb _ _ (c .if4 .taken)))
 
-is-ready-requires : tie.Need-is-ready-requires
-is-ready-requires c κs = search needs
+sub-ready-by : tie.Need-sub-ready-by
+sub-ready-by c = omega (arith, state-bounds (c .before .before .before .before .before .before .before .before .before .before .before .before .before .args .state) (inside (c .before .before .before .before .before .before .before .before .before)))
 
-is-ready : (c : tie.After-is-ready) (b : Bool) → let a = c .before .before .before .before .before .before .before .before .before .before .before .before .before .args in readyIn (a .state) (a .r) (a .k) ≡ b → stepReady (a .state) (a .r) (a .k) ≡ b
-is-ready c b e = let a = c .before .before .before .before .before .before .before .before .before .before .before .before .before .args in sym (ready-is (a .state) (a .r) (a .k) (inside (c .before .before .before .before .before .before .before .before .before))) ∙ e
+ready-by-requires : tie.Need-ready-by-requires
+ready-by-requires c κs = search needs
+
+-- by what the look found the step is ready, or not
+ready : (c : tie.After-ready-by) → let a = c .before .before .before .before .before .before .before .before .before .before .before .before .before .before .args in c .ready-by .result ≡ stepReady (a .state) (a .r) (a .k)
+ready c =
+    let s = c .before .before .before .before .before .before .before .before .before .before .before .before .before .before in
+    let a = s .args in
+    let e = c .before .before .before .before .before .before in
+    let fine = and-right (a .survey .sound) _ (lent-sound _ _ _ _ (lent (e .before)) (e .if2 .left)) in
+    c .ready-by .ensures ∙ look-ready (a .state) (a .r) (a .look) (s .pre .0) (inside (c .before .before .before .before .before .before .before .before .before .before)) fine (eq-eqb _ _ (c .before .before .if4 .left)) (a .k) _ (s .pre .1)
 
 returns-5 : tie.Need-returns-5
 unfolding stepRows firstRow
-returns-5 c = sym (own (c .before .before .before .before .before .before) ∙ rw (lt-leb _ _ (c .before .before .before .before .if3 .left), eq-eqb _ _ (c .before .before .if4 .left), is-ready (c .before) false (fails (c .before .is-ready .ensures) (c .if5 .taken))))
+returns-5 c = sym (own (c .before .before .before .before .before .before .before) ∙ rw (lt-leb _ _ (c .before .before .before .before .before .if3 .left), eq-eqb _ _ (c .before .before .before .if4 .left), fails (ready (c .before)) (c .if5 .taken)))
 
 returns-6 : tie.Need-returns-6
 unfolding stepRows firstRow
-returns-6 c = sym (own (c .before .before .before .before .before .before) ∙ rw (lt-leb _ _ (c .before .before .before .before .if3 .left), eq-eqb _ _ (c .before .before .if4 .left), is-ready (c .before) true (holds (c .before .is-ready .ensures) (c .if5 .left))))
+returns-6 c = sym (own (c .before .before .before .before .before .before .before) ∙ rw (lt-leb _ _ (c .before .before .before .before .before .if3 .left), eq-eqb _ _ (c .before .before .before .if4 .left), holds (ready (c .before)) (c .if5 .left)))
 
 pub step-refusal-spec : {M : Type 1} → statement M
 step-refusal-spec =
@@ -87,11 +108,12 @@ step-refusal-spec =
     beyond-requires
     returns
     lent-wrong-requires
-    sound-with-requires
+    both-sound-requires
     lent-refusal-requires
     returns-2
     returns-3
     returns-4
-    is-ready-requires
+    sub-ready-by
+    ready-by-requires
     returns-5
     returns-6)

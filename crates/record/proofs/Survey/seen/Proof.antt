@@ -1,11 +1,13 @@
--- `seen` meets its contract.
+-- `seen` meets its contract: an open record is noted among the stripes held, another one may be the lowest free.
 -- Assumes nothing.
-use Prim.Native.Nat.{ℕ}
-use mathlib.Core.Path.{refl, ap}
+use mathlib.Core.Bool.{Bool, true, false, not, _&&_}
+use mathlib.Core.Path.{_≡_, refl, ap, _∙_}
 use borrow.Author.Needs.{needs}
-use borrow.Author.Tests.{lt-ltb, le-ltb}
-use lib.ListN.{set}
-use Rattle.record.specs.Seen.{seen}
+use borrow.Author.Tests.{lt-ltb, le-ltb, eq-eqb, ne-eqb}
+use Rattle.record.specs.Asked.{soundRecordIn}
+use Rattle.record.specs.Life.{isFree, isOpen}
+use Rattle.record.specs.Seen.{heldBefore, stillSound, stillFree, seen}
+use Rattle.record.proofs.Clauses.{open-not-free}
 use Rattle.record.proofs.Same.{same-survey}
 use Rattle.record.proofs.Survey.seen.Statement.{statement}
 use Rattle.record.proofs.Survey.seen.Tie as tie
@@ -14,39 +16,56 @@ returns : tie.Need-returns
 unfolding seen
 returns c = rw (le-ltb (c .before .args .i) 8 (c .if1 .taken))
 
-still-sound-requires : tie.Need-still-sound-requires
-still-sound-requires c κs = search needs
+so-far-requires : tie.Need-so-far-requires
+so-far-requires c κs = search needs
+
+seen-open-requires : tie.Need-seen-open-requires
+seen-open-requires c κs = search needs
+
+-- the stripe's test matters for an open record alone
+for-open : (a b c d : Bool) → c ≡ true → ((a && b) && not d) ≡ (a && (b && not (c && d)))
+for-open true b c d o = rw o
+for-open false b c d o = refl
+
+for-other : (a b c d : Bool) → c ≡ false → (a && b) ≡ (a && (b && not (c && d)))
+for-other true true c d o = rw o
+for-other true false c d o = refl
+for-other false b c d o = refl
+
+returns-2 : tie.Need-returns-2
+unfolding seen stillSound stillFree
+returns-2 c =
+    let t = c .before in
+    let s = t .before .before in
+    let a = s .before .before .args in
+    let o : isOpen (a .r) ≡ true = eq-eqb (a .r .phase) 1 (t .if2 .taken) in
+    let f : isFree (a .r) ≡ false = open-not-free (a .r) o in
+    rw (lt-ltb (a .i) 8 (search needs))
+    (c .seen-open .ensures
+    ∙ same-survey _ _ refl
+    (ap (λ (b : Bool). b && not (heldBefore (a .self) (a .r .stripe) (a .i))) (s .so-far .ensures)
+    ∙ for-open (a .self .sound) (soundRecordIn (a .state) (a .r)) (isOpen (a .r)) (heldBefore (a .self) (a .r .stripe) (a .i)) o)
+    (rw o)
+    (rw f))
 
 still-free-requires : tie.Need-still-free-requires
 still-free-requires c κs = search needs
 
-held-stripe-requires : tie.Need-held-stripe-requires
-held-stripe-requires c κs = search needs
-
-mul-self : tie.Need-mul-self
-mul-self c = search needs
-
-element-write-self : tie.Need-element-write-self
-element-write-self c = search needs
-
-returns-2 : tie.Need-returns-2
-unfolding seen
-returns-2 c =
-    let e = c .before .before .before in
-    let a = e .before .args in
+returns-3 : tie.Need-returns-3
+unfolding seen stillSound
+returns-3 c =
+    let t = c .before in
+    let s = t .before .before in
+    let a = s .before .before .args in
+    let o : isOpen (a .r) ≡ false = ne-eqb (a .r .phase) 1 (t .if2 .left) in
     rw (lt-ltb (a .i) 8 (search needs))
-    (same-survey _ _ refl (c .before .before .still-sound .ensures)
-    (ap (λ (s : ℕ). set (a .t1 .held) (a .i) s) (c .held-stripe .ensures))
-    (c .before .still-free .ensures))
+    (same-survey _ _ refl
+    (s .so-far .ensures
+    ∙ for-other (a .self .sound) (soundRecordIn (a .state) (a .r)) (isOpen (a .r)) (heldBefore (a .self) (a .r .stripe) (a .i)) o)
+    (rw o)
+    (c .still-free .ensures))
 
 pub seen-spec : {M : Type 1} → statement M
 seen-spec =
     tie.close
-    (tie.spec
-    returns
-    still-sound-requires
-    still-free-requires
-    held-stripe-requires
-    mul-self
-    element-write-self
-    returns-2)
+    (tie.spec returns so-far-requires seen-open-requires returns-2 still-free-requires returns-3)
