@@ -10,7 +10,7 @@ use Rattle.terms.specs.Sets.{bit}
 use Rattle.geometry.specs.Store.{readAt}
 use Rattle.geometry.specs.declared.State.{State}
 use Rattle.record.specs.Life.{free, isWrite, unitsOf}
-use Rattle.record.specs.Survey.{surveyOf}
+use Rattle.record.specs.Survey.{surveyBut}
 use Rattle.record.specs.declared.Record.{Record}
 use Rattle.record.specs.declared.Survey.{Survey}
 use Rattle.array.specs.Lent.{rank}
@@ -35,7 +35,7 @@ pub record CollectionBy : Type 0 where
   pub stands : Record
   pub result : List ℕ
 
--- collect of record i, which is r, by a survey of the table
+-- collect of record i, which is r, by a survey of the rest of the table
 unfoldable pub collectionBy : State → Survey → Record → List ℕ → ℕ → List ℕ → CollectionBy
 collectionBy st v r work i result =
     let number = collectRefusal st v r work i result in
@@ -54,5 +54,5 @@ pub record Collection : Type 0 where
 
 unfoldable pub collection : State → List Record → List ℕ → ℕ → List ℕ → Collection
 collection st table work i result =
-    let a = collectionBy st (surveyOf st table) (getD table i free) work i result in
+    let a = collectionBy st (surveyBut st table i) (getD table i free) work i result in
     record { reply = a .reply; table = set table (a .place) (a .stands); result = a .result }

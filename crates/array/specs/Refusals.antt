@@ -1,5 +1,5 @@
 -- Document 01, "Refusal numbers": for each call, in the paper's order, the test and the number. 0: the call is accepted. A call on the table is
--- asked of a survey of it and, where it is about one record, of that record; which these are is said where the call itself is.
+-- asked of a survey of it or, where it is about one record, of that record and a survey of the rest.
 -- Assumes nothing.
 use Prim.Native.Nat.{ℕ}
 use mathlib.Core.Bool.{Bool, cond, not, _&&_, _||_}
@@ -15,8 +15,8 @@ use Rattle.graph.specs.Order.{ready}
 use Rattle.parity.specs.Parity.{rightParity}
 use Rattle.parity.specs.Scan.{nothingHeld}
 use Rattle.record.specs.Life.{isOpen, isFinished, isWrite, unitsOf, chosenAt}
-use Rattle.record.specs.Sound.{soundRecord, legalMask}
-use Rattle.record.specs.Survey.{heldIn}
+use Rattle.record.specs.Sound.{legalMask}
+use Rattle.record.specs.Survey.{heldIn, soundWith}
 use Rattle.record.specs.declared.Record.{Record}
 use Rattle.record.specs.declared.Survey.{Survey}
 use Rattle.array.specs.Lent.{tableWrong, lentRows, unitBytes}
@@ -59,27 +59,27 @@ admitRefusal st v work image write s mask payload =
 unfoldable pub stepReady : State → Record → ℕ → Bool
 stepReady st r k = ready (unitsOf st) (r .graph) (r .mask) (chosenAt st r) (r .done) k
 
--- step k of record i, which is r: 1 to 5, 10, 11. A record of a sound table is sound, so that its own test in 3 adds nothing there
+-- step k of record i, which is r, by a survey of the rest of the table: 1 to 5, 10, 11
 unfoldable pub stepRows : State → Record → ℕ → ℕ → List Row
 stepRows st r i k = row (leb (st .records) i) 5 ∷ row (not (isOpen r)) 10 ∷ row (not (stepReady st r k)) 11 ∷ []
 
 unfoldable pub stepRefusal : State → Survey → Record → List ℕ → List ℕ → ℕ → ℕ → ℕ
 stepRefusal st v r work image i k =
     firstRow
-    (lentRows st (imageWrong st image || tableWrong st (v .len) || workWrong st work) (v .sound && soundRecord st r)
+    (lentRows st (imageWrong st image || tableWrong st (v .len) || workWrong st work) (soundWith st v r)
     ++ stepRows st r i k)
 
 -- collect's result buffer is below m·B for a read
 unfoldable pub resultShort : State → Record → List ℕ → Bool
 resultShort st r result = not (isWrite r) && ltb (length result) (unitBytes st (r .mask))
 
--- collect of record i, which is r: 1 to 5, 10, 7; it isn't lent the image
+-- collect of record i, which is r, by a survey of the rest of the table: 1 to 5, 10, 7; it isn't lent the image
 unfoldable pub collectRows : State → Record → ℕ → List ℕ → List Row
 collectRows st r i result = row (leb (st .records) i) 5 ∷ row (not (isFinished r)) 10 ∷ row (resultShort st r result) 7 ∷ []
 
 unfoldable pub collectRefusal : State → Survey → Record → List ℕ → ℕ → List ℕ → ℕ
 collectRefusal st v r work i result =
-    firstRow (lentRows st (tableWrong st (v .len) || workWrong st work) (v .sound && soundRecord st r) ++ collectRows st r i result)
+    firstRow (lentRows st (tableWrong st (v .len) || workWrong st work) (soundWith st v r) ++ collectRows st r i result)
 
 -- scan: 1 to 4, 12, 13; it isn't lent the work store, and passes over the stripes that an open request holds
 unfoldable pub scanRows : State → Survey → List ℕ → List Row

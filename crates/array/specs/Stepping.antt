@@ -15,7 +15,7 @@ use Rattle.geometry.specs.declared.State.{State}
 use Rattle.graph.specs.Steps.{Step, rd, xr, wr, nil, stepOf}
 use Rattle.graph.specs.Sums.{takesRead, takesNew, sumsToRead}
 use Rattle.record.specs.Life.{free, unitsOf, chosenAt, missingIn, stepped, afresh}
-use Rattle.record.specs.Survey.{surveyOf}
+use Rattle.record.specs.Survey.{surveyBut}
 use Rattle.record.specs.declared.Record.{Record}
 use Rattle.record.specs.declared.Survey.{Survey}
 use Rattle.array.specs.Refusals.{stepRefusal}
@@ -83,7 +83,7 @@ accepting st work image i r k =
       image = imageAfter st i r (stepOf (unitsOf st) k) work image;
     })
 
--- step k of record i, which is r, by a survey of the table
+-- step k of record i, which is r, by a survey of the rest of the table
 unfoldable pub steppingBy : State → Survey → Record → List ℕ → List ℕ → ℕ → ℕ → SteppingBy
 steppingBy st v r work image i k =
     let number = stepRefusal st v r work image i k in
@@ -100,5 +100,5 @@ pub record Stepping : Type 0 where
 
 unfoldable pub stepping : State → List Record → List ℕ → List ℕ → ℕ → ℕ → Stepping
 stepping st table work image i k =
-    let a = steppingBy st (surveyOf st table) (getD table i free) work image i k in
+    let a = steppingBy st (surveyBut st table i) (getD table i free) work image i k in
     record { reply = a .reply; table = set table (a .place) (a .stands); work = a .work; image = a .image }

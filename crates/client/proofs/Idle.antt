@@ -22,7 +22,7 @@ use Rattle.history.proofs.Demand3.{demand-3}
 use Rattle.history.proofs.Events.{history-sure}
 use Rattle.history.proofs.Parities.{right-intro}
 use Rattle.history.proofs.Stripes.{parity-right}
-use Rattle.history.proofs.Tables.{held-intro}
+use Rattle.record.proofs.SoundTables.{held-intro}
 use Rattle.history.specs.Account.{Account}
 use Rattle.history.specs.History.{History, Whole}
 use Rattle.history.specs.Promise.{Open, Keeps}

@@ -34,7 +34,7 @@ use Rattle.history.proofs.Invariant.{Matches, Working, Sure, viewOf}
 use Rattle.history.proofs.Records.{admitted-fit, request-begun, mask-some, mask-units}
 use Rattle.history.proofs.Rows.{rowOf, afterRow, row-is-row, after-read, after-masked, after-unmasked}
 use Rattle.record.proofs.Clauses.{fit-sound, free-not-open}
-use Rattle.history.proofs.Tables.{held-elim, holds-elim}
+use Rattle.record.proofs.SoundTables.{held-elim, holds-elim}
 use Rattle.history.proofs.Turn.{Turn, turned}
 
 module _ (w : World) (a : Account) (sure : Sure w a) (write : Bool) (s mask : ℕ) (payload : List ℕ)

@@ -36,7 +36,7 @@ use Rattle.history.specs.World.{World, recordAt}
 use Rattle.history.proofs.Facts.{bounds, open-fits}
 use Rattle.history.proofs.Invariant.{Matches, Working, Sure, Resting, cellsOf}
 use Rattle.history.proofs.Rows.{rowOf, afterRow}
-use Rattle.history.proofs.Tables.{Sound, sound-elim, sound-intro, held-elim, holds-elim}
+use Rattle.record.proofs.SoundTables.{Sound, sound-elim, sound-intro, held-elim, holds-elim}
 
 -- a state of a geometry, with these marks
 abbrev pub marks : Geometry → ℕ → ℕ → State

@@ -13,7 +13,7 @@ use Rattle.record.specs.Life.{free, isFree, isOpen}
 use Rattle.record.specs.declared.Record.{Record}
 use Rattle.array.proofs.Lent.{Right}
 use Rattle.record.proofs.Clauses.{Fit, fit, open-not-free}
-use Rattle.history.proofs.Tables.{sound-elim}
+use Rattle.record.proofs.SoundTables.{sound-elim}
 
 module _ {st : State} {table : List Record} {work image : List ℕ} (right : Right st table work image) where
   pub bounds : Bounds (st .cards) (st .stripes) (st .block) (st .records)

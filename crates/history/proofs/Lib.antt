@@ -4,7 +4,6 @@ pub mod Places
 pub mod Positions
 pub mod Rows
 pub mod Gather
-pub mod Tables
 pub mod Facts
 pub mod Parities
 pub mod Near

@@ -32,7 +32,7 @@ use Rattle.history.proofs.Invariant.{Sure, matches-vacant}
 use Rattle.history.proofs.Parities.{right-elim}
 use Rattle.history.proofs.ReadOff.{opened-size, opened-rests}
 use Rattle.record.proofs.Clauses.{free-sound}
-use Rattle.history.proofs.Tables.{sound-intro}
+use Rattle.record.proofs.SoundTables.{sound-intro}
 
 module _ (g : Geometry) (out : ℕ) (table : List Record) (work image : List ℕ) where
   module _ (ok : opening g out table work image .reply .number ≡ 0) where

@@ -35,7 +35,7 @@ use Rattle.history.proofs.Invariant.{Sure}
 use Rattle.history.proofs.Records.{mask-units}
 use Rattle.history.proofs.Replies.{admit-tests, admit-taken, step-tests, collect-tests, collect-taken, lent, step-grants, collect-grants}
 use Rattle.history.proofs.Stripes.{promised-unit, promised-parity, promised-inferred, promised-scan}
-use Rattle.history.proofs.Tables.{held-intro, holds-not}
+use Rattle.record.proofs.SoundTables.{held-intro, holds-not}
 use Rattle.record.proofs.Clauses.{open-not-free, finished-not-free}
 
 -- a free record that is sound has counted nothing

@@ -31,7 +31,7 @@ use Rattle.history.proofs.Invariant.{Matches, Working, Sure, requestOf}
 use Rattle.history.proofs.Records.{afresh-fit, request-afresh}
 use Rattle.history.proofs.Rows.{afterRow}
 use Rattle.record.proofs.Clauses.{Fit, fit-sound}
-use Rattle.history.proofs.Tables.{Sound, sound-elim}
+use Rattle.record.proofs.SoundTables.{Sound, sound-elim}
 use Rattle.history.proofs.Turn.{Turn, turned}
 
 -- ---- a step meets the missing position, or does not

@@ -33,7 +33,7 @@ use Rattle.history.proofs.Gather.{gathered-cong}
 use Rattle.history.proofs.Invariant.{Matches, Working, Resting, Sure, requestOf}
 use Rattle.history.proofs.Near.{faithful-near, two-below}
 use Rattle.history.proofs.Rows.{rowOf, afterRow, row-cong, after-cong}
-use Rattle.history.proofs.Tables.{Sound, sound-elim, sound-intro, held-elim, held-intro, holds-not, holds-elim}
+use Rattle.record.proofs.SoundTables.{Sound, sound-elim, sound-intro, held-elim, held-intro, holds-not, holds-elim}
 
 -- record i becomes r′, the work store, the image and the row become these, and the account's entry e′; the state stays. Of stripe s
 pub record Turn (w : World) (a : Account) (i s : ℕ) (r′ : Record) (work′ image′ : List ℕ) (row′ : ℕ → List ℕ) (e′ : Entry) : Type 0 where

@@ -10,3 +10,5 @@ pub mod Clauses
 pub mod Soundness
 pub mod Surveyed
 pub mod Looks
+pub mod SoundTables
+pub mod Rest

@@ -2,15 +2,15 @@
 -- a table by value has sixty-four.
 -- Assumes nothing.
 use Prim.Native.Nat.{ℕ}
-use mathlib.Core.Bool.{Bool, cond, false, _&&_}
+use mathlib.Core.Bool.{Bool, cond, false, not, _&&_}
 use mathlib.Core.List.{List}
 use lib.Dec.{leb}
-use lib.ListN.{length, getD, replicate}
+use lib.ListN.{length, getD, set, replicate}
 use Rattle.terms.specs.Lists.{tabulate, among}
 use Rattle.geometry.specs.declared.State.{State}
 use Rattle.record.specs.Asked.{noStripe, heldStripe}
-use Rattle.record.specs.Life.{free}
-use Rattle.record.specs.Sound.{sound, lowestFree}
+use Rattle.record.specs.Life.{free, isOpen}
+use Rattle.record.specs.Sound.{soundRecord, sound, lowestFree}
 use Rattle.record.specs.declared.Survey.{Survey}
 use Rattle.record.specs.declared.Record.{Record}
 
@@ -38,3 +38,11 @@ surveyOf st l =
 -- by the survey an open request holds the stripe
 unfoldable pub heldIn : Survey → ℕ → Bool
 heldIn v s = among (v .held) s
+
+-- the survey of the rest of a table: of the table with record i taken out
+abbrev pub surveyBut : State → List Record → ℕ → Survey
+surveyBut st l i = surveyOf st (set l i free)
+
+-- the table is sound: by a survey of the rest of it that is, the record is, and it holds no stripe that the rest holds
+unfoldable pub soundWith : State → Survey → Record → Bool
+soundWith st v r = v .sound && soundRecord st r && not (isOpen r && heldIn v (r .stripe))

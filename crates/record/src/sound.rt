@@ -109,7 +109,7 @@ impl Record {
     }
 
     // A free record is sound: every number is zero.
-    fn free_sound(self, state: State) -> bool
+    pub(crate) fn free_sound(self, state: State) -> bool
         ensures { λ r. ⌜ r ≡ (fewIn state && allZero self) ⌝ }
     {
         if units(state) > 7 {

@@ -1,13 +1,17 @@
 // The survey of a table: made record by record, and asked for a stripe.
-ghost use mathlib.Core.Bool.{not, _&&_};
+ghost use mathlib.Core.Bool.{cond, not, _&&_};
+ghost use lib.Dec.{eqb};
 ghost use mathlib.Core.Path.{_≡_};
 ghost use Prim.Native.Nat.{_≤_, _<_};
 ghost use lib.ListN.{set};
-ghost use Rattle.record.specs.Asked.{soundRecordIn};
-ghost use Rattle.record.specs.Seen.{looksAtMany, toSee, started, heldBefore, stillFree, seen};
+ghost use Rattle.record.specs.Asked.{fewIn, soundRecordIn};
+ghost use Rattle.record.specs.Seen.{looksAtMany, toSee, started, heldBefore, seen};
+ghost use Rattle.record.specs.Life.{free};
+ghost use Rattle.record.specs.Sound.{allZero};
 ghost use Rattle.record.specs.Survey.{heldIn};
 use crate::Record;
 use crate::Survey;
+use crate::life::free;
 use geometry::NO_STRIPE;
 use geometry::State;
 
@@ -32,6 +36,16 @@ fn so_far(right: bool, state: State, r: Record) -> bool
         return false;
     }
     r.is_sound(state)
+}
+
+// Whether both hold.
+fn both(a: bool, b: bool) -> bool
+    ensures { λ r. ⌜ r ≡ (a && b) ⌝ }
+{
+    if !a {
+        return false;
+    }
+    b
 }
 
 impl Survey {
@@ -75,17 +89,25 @@ impl Survey {
         false
     }
 
-    // The lowest free record as far as record r at i.
-    fn still_free(self, i: u64, r: Record) -> u64
-        ensures { λ n. ⌜ n ≡ stillFree self i r ⌝ }
+    // The lowest free record as far as a free record at i.
+    fn first_free(self, i: u64) -> u64
+        ensures { λ n. ⌜ n ≡ cond (eqb (self .free) (self .len)) i (self .free) ⌝ }
     {
-        if r.phase != 0 {
-            return self.free;
-        }
         if self.free != self.len {
             return self.free;
         }
         i
+    }
+
+    // The survey after a free record at i.
+    fn seen_free(mut self, state: State, i: u64, r: Record) -> Survey
+        ensures { λ v. ⌜ v ≡ record { len = self .len; sound = self .sound && (fewIn state && allZero r); held = self .held; free = cond (eqb (self .free) (self .len)) i (self .free) } ⌝ }
+    {
+        let sound = both(self.sound, r.free_sound(state));
+        let free = self.first_free(i);
+        self.sound = sound;
+        self.free = free;
+        self
     }
 
     // What was right so far, where no record before i holds the stripe.
@@ -117,14 +139,25 @@ impl Survey {
         if i > 7 {
             return self;
         }
+        if r.phase == 0 {
+            return self.seen_free(state, i, r);
+        }
         let right = so_far(self.sound, state, r);
         if r.phase == 1 {
             return self.seen_open(right, r.stripe, i as usize);
         }
-        let free = self.still_free(i, r);
         self.sound = right;
-        self.free = free;
         self
+    }
+
+    // The survey after record r at i, which is left out where i is this place.
+    pub fn seen_but(self, state: State, i: u64, r: Record, but: u64) -> Survey
+        ensures { λ v. ⌜ v ≡ seen state self i (cond (eqb i but) free r) ⌝ }
+    {
+        if i == but {
+            return self.seen(state, i, free());
+        }
+        self.seen(state, i, r)
     }
 
     // An open request holds the stripe.

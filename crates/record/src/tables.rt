@@ -3,7 +3,7 @@ ghost use mathlib.Core.Path.{_≡_};
 ghost use Prim.Native.Nat.{min};
 ghost use lib.ListN.{getD};
 ghost use Rattle.record.specs.Life.{free, recordsOf};
-ghost use Rattle.record.specs.Survey.{surveyOf};
+ghost use Rattle.record.specs.Survey.{surveyOf, surveyBut};
 use crate::Record;
 use crate::Survey;
 use crate::Table;
@@ -35,18 +35,25 @@ impl Table {
         self.records[place]
     }
 
+    // What one look at the rest finds, with record i left out.
+    pub fn survey_but(self, state: State, i: u64) -> Survey
+        ensures { λ r. ⌜ r ≡ surveyBut state (recordsOf self) i ⌝ }
+    {
+        let top = Survey::to_see(state, self.len);
+        let mut survey = Survey::started(state, self.len);
+        let mut j: u64 = 0;
+        while j < top {
+            let r = self.at(j);
+            survey = survey.seen_but(state, j, r, i);
+            j += 1;
+        }
+        survey
+    }
+
     // What one look at it finds.
     pub fn survey(self, state: State) -> Survey
         ensures { λ r. ⌜ r ≡ surveyOf state (recordsOf self) ⌝ }
     {
-        let top = Survey::to_see(state, self.len);
-        let mut survey = Survey::started(state, self.len);
-        let mut i: u64 = 0;
-        while i < top {
-            let r = self.at(i);
-            survey = survey.seen(state, i, r);
-            i += 1;
-        }
-        survey
+        self.survey_but(state, 8)
     }
 }
