@@ -6,13 +6,13 @@ use mathlib.Core.List.{List, _++_}
 use mathlib.Core.Path.{_≡_, refl, sym, ap, _∙_}
 use native.Mathlib.Omega.{arith}
 use borrow.Author.Tests.{le-leb, leb-false, eqb-true, ltb-true, ltb-false, not-false, ne-eqb}
-use lib.Dec.{ltb, leb, eqb}
+use lib.Dec.{ltb, eqb}
 use lib.ListN.{length}
 use Rattle.terms.specs.Lists.{every}
 use Rattle.terms.proofs.Refusals.{Failed, giving, zero-failed, failed-first, failed-second}
 use Rattle.terms.proofs.Rows.{and-right, or-false-left, or-false-right}
 use Rattle.geometry.specs.Limits.{beyondState}
-use Rattle.geometry.specs.Store.{legalState, imageWrong, workWrong, imageSize, workSize}
+use Rattle.geometry.specs.Store.{legalState, imageWrong, workWrong}
 use Rattle.geometry.specs.declared.State.{State}
 use Rattle.geometry.proofs.Bounds.{legal-bounds, bounds-legal}
 use Rattle.geometry.proofs.Lengths.{state-bounds, image-length, work-length}

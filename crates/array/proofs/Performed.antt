@@ -33,7 +33,7 @@ use Rattle.graph.specs.Sums.{takesNew, sumsToRead}
 use Rattle.record.specs.Life.{chosenAt, unitsOf}
 use Rattle.record.specs.declared.Record.{Record}
 use Rattle.array.specs.Premises.{Standing, Within, readBy}
-use Rattle.array.specs.Stepping.{cellOf, workAfter, imageAfter, sumByte, sumAt}
+use Rattle.array.specs.Stepping.{workAfter, imageAfter, sumByte, sumAt}
 use Rattle.array.specs.Sums.{takenIf, blockSum}
 
 -- a record's blocks stand one behind the other

@@ -3,12 +3,12 @@
 use Prim.Native.Nat.{ℕ, _≤_}
 use mathlib.Core.Bool.{Bool, true, false, not, _||_}
 use mathlib.Core.List.{List, [], _∷_}
-use mathlib.Core.Path.{_≡_, sym, ap, _∙_}
+use mathlib.Core.Path.{_≡_, sym, _∙_}
 use native.Mathlib.Omega.{arith}
 use lib.Dec.{eqb}
 use borrow.Author.Tests.{eq-eqb, ne-eqb}
 use Rattle.terms.specs.Lists.{among}
-use Rattle.terms.specs.Reply.{row, firstRow, accepted, onAccept, refusedOr13}
+use Rattle.terms.specs.Reply.{row, firstRow}
 use Rattle.geometry.specs.Limits.{none, beyondState}
 use Rattle.geometry.specs.Store.{imageWrong}
 use Rattle.geometry.specs.declared.State.{State}
