@@ -14,7 +14,6 @@ pub mod Steps
 pub mod Rank
 pub mod Puts
 pub mod Kept
-pub mod Handed
 -- Bytes stay bytes
 pub mod Bytes
 -- What the code's proofs rest on.

@@ -1,9 +1,9 @@
 -- The place of a unit among those of a mask: one more behind each unit of the mask, and all of them before the end.
 -- Assumes nothing.
-use Prim.Native.Nat.{ℕ, zero, suc, _+_, _-_, _/_, _%_, _^_, _≤_, _<_}
-use mathlib.Core.Bool.{Bool, true, cond}
+use Prim.Native.Nat.{ℕ, zero, suc, _+_, _/_, _%_, _^_, _<_}
+use mathlib.Core.Bool.{true, cond}
 use mathlib.Core.Path.{_≡_, refl, sym, ap, _∙_}
-use native.Mathlib.Nat.{mod-eq-of-lt, mod-lt, mod-one, div-add-mod', add-comm, add-zero, add-suc}
+use native.Mathlib.Nat.{mod-eq-of-lt, mod-lt, mod-one, div-add-mod', add-comm}
 use native.Mathlib.Omega.{arith}
 use borrow.Author.Tests.{eqb-true}
 use lib.Count.{ones, ones-step, ones-cat}
@@ -51,15 +51,3 @@ rank-below mask u e =
 pub rank-all : (n mask : ℕ) → mask < 2 ^ n → rank mask n ≡ ones mask
 unfolding rank
 rank-all n mask h = ap ones (mod-eq-of-lt h)
-
--- no unit stands before one below it
-rank-le : (mask u d : ℕ) → rank mask u ≤ rank mask (u + d)
-rank-le mask u zero = omega (arith, ap (rank mask) (add-zero u))
-rank-le mask u (suc d) = omega (arith, rank-le mask u d, ap (rank mask) (add-suc u d), rank-suc mask (u + d))
-
--- a unit of the mask stands before those above it
-pub rank-before : (mask u v : ℕ) → bit u mask ≡ true → u < v → rank mask u < rank mask v
-rank-before mask u v e h =
-    let up : suc u + (v - suc u) ≡ v = omega arith in
-    let more : rank mask (suc u) ≡ rank mask u + 1 = rank-suc mask u ∙ ap (λ (t : Bool). rank mask u + cond t 1 0) e in
-    omega (arith, rank-le mask (suc u) (v - suc u), ap (rank mask) up)

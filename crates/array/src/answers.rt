@@ -35,8 +35,8 @@ pub struct Opening {
     pub state: State,
 }
 
-// What a call over a table by value hands back beside its answer: the record that changes and its place. A place past the
-// table's end changes nothing.
+// What a call on the table hands back beside its answer: the record that stands after it, and its place. A refused call's place is the
+// table's length, where nothing stands.
 pub struct Admission {
     pub answer: Admitted,
     pub place: u64,

@@ -1,15 +1,19 @@
 -- `array::admits::admit_refusal` meets its contract: each `return` is the first row whose test holds.
 -- Assumes nothing.
-use mathlib.Core.Bool.{Bool, false, _||_}
+use mathlib.Core.Bool.{Bool, true, false, _||_}
 use mathlib.Core.Path.{_≡_, sym, ap, _∙_}
 use native.Mathlib.Omega.{arith}
 use borrow.Author.Tests.{le-leb, lt-leb}
 use denote.Ref.{now}
+use lib.Dec.{leb}
 use Rattle.terms.specs.Reply.{firstRow}
 use Rattle.geometry.specs.Limits.{beyondState}
 use Rattle.geometry.specs.Store.{imageWrong, workWrong}
 use Rattle.geometry.proofs.Flags.{fails, holds}
 use Rattle.geometry.proofs.Lengths.{state-bounds}
+use Rattle.record.specs.Life.{unitsOf}
+use Rattle.record.specs.Sound.{legalMask}
+use Rattle.record.specs.Survey.{heldIn}
 use Rattle.array.specs.Lent.{tableWrong, lentRows}
 use Rattle.array.specs.Refusals.{admitRefusal, admitRows, payloadWrong}
 use Rattle.array.proofs.Accepted.{legal-state}
@@ -58,6 +62,20 @@ returns-3 : tie.Need-returns-3
 unfolding admitRows firstRow
 returns-3 c = sym (own (c .before .before) ∙ rw (le-leb _ _ (c .if3 .taken)))
 
+-- what each passed test of its own tells
+in-range : (c : tie.Else3) → let a = c .before .before .before .before .before .before .before .before .before .before .args in leb (a .state .stripes) (a .stripe) ≡ false
+in-range c = lt-leb _ _ (c .if3 .left)
+
+units : (c : tie.Else4) → let a = c .before .before .before .before .before .before .before .before .before .before .before .before .before .args in legalMask (unitsOf (a .state)) (a .mask) ≡ true
+units c = holds (c .before .legal-mask .ensures) (c .if4 .left)
+
+paid : (c : tie.Else5) → let a = c .before .before .before .before .before .before .before .before .before .before .before .before .before .before .before .args in payloadWrong (a .state) (a .write) (a .mask) (now (a .payload)) ≡ false
+unfolding payloadWrong
+paid c = sym (c .before .payload-wrong .ensures) ∙ c .if5 .left
+
+not-held : (c : tie.Else6) → let a = c .before .before .before .before .before .before .before .before .before .before .before .before .before .before .before .before .before .args in heldIn (a .survey) (a .stripe) ≡ false
+not-held c = sym (c .before .is-held .ensures) ∙ c .if6 .left
+
 sub-legal-mask : tie.Need-sub-legal-mask
 sub-legal-mask c = omega (arith, state-bounds (c .before .before .before .before .before .before .before .before .before .before .before .args .state) (inside (c .before .before .before .before .before .before)))
 
@@ -66,36 +84,48 @@ legal-mask-requires c κs = search needs
 
 returns-4 : tie.Need-returns-4
 unfolding admitRows firstRow
-returns-4 c = sym (own (c .before .before .before .before .before) ∙ rw (lt-leb _ _ (c .before .before .before .if3 .left), fails (c .before .legal-mask .ensures) (c .if4 .taken)))
+returns-4 c =
+    let s = c .before .before .before in
+    sym (own (s .before .before) ∙ rw (in-range s, fails (c .before .legal-mask .ensures) (c .if4 .taken)))
 
 payload-wrong-requires : tie.Need-payload-wrong-requires
 payload-wrong-requires c κs = omega (arith, state-bounds (c .before .before .before .before .before .before .before .before .before .before .before .before .before .args .state) (inside (c .before .before .before .before .before .before .before .before)))
 
 returns-5 : tie.Need-returns-5
 unfolding admitRows payloadWrong firstRow
-returns-5 c = sym (own (c .before .before .before .before .before .before .before) ∙ rw (lt-leb _ _ (c .before .before .before .before .before .if3 .left), holds (c .before .before .before .legal-mask .ensures) (c .before .before .if4 .left), sym (c .before .payload-wrong .ensures) ∙ c .if5 .taken))
+returns-5 c =
+    let m = c .before .before in
+    let s = m .before .before .before in
+    sym (own (s .before .before) ∙ rw (in-range s, units m, sym (c .before .payload-wrong .ensures) ∙ c .if5 .taken))
 
 is-held-requires : tie.Need-is-held-requires
 is-held-requires c κs = search needs
 
 returns-6 : tie.Need-returns-6
-unfolding admitRows payloadWrong firstRow
+unfolding admitRows firstRow
 returns-6 c =
-    sym
-    (own (c .before .before .before .before .before .before .before .before .before)
-    ∙ rw (lt-leb _ _ (c .before .before .before .before .before .before .before .if3 .left), holds (c .before .before .before .before .before .legal-mask .ensures) (c .before .before .before .before .if4 .left), sym (c .before .before .before .payload-wrong .ensures) ∙ c .before .before .if5 .left, sym (c .before .is-held .ensures) ∙ c .if6 .taken))
+    let p = c .before .before in
+    let m = p .before .before in
+    let s = m .before .before .before in
+    sym (own (s .before .before) ∙ rw (in-range s, units m, paid p, sym (c .before .is-held .ensures) ∙ c .if6 .taken))
 
 returns-7 : tie.Need-returns-7
-unfolding admitRows payloadWrong firstRow
+unfolding admitRows firstRow
 returns-7 c =
-    let e = c .before .before .before in
-    sym (own (e .before .before .before .before .before .before .before .before .before) ∙ rw (lt-leb _ _ (e .before .before .before .before .before .before .before .if3 .left), holds (e .before .before .before .before .before .legal-mask .ensures) (e .before .before .before .before .if4 .left), sym (e .before .before .before .payload-wrong .ensures) ∙ e .before .before .if5 .left, sym (e .before .is-held .ensures) ∙ e .if6 .left, le-leb _ _ (c .if7 .taken)))
+    let h = c .before .before .before in
+    let p = h .before .before in
+    let m = p .before .before in
+    let s = m .before .before .before in
+    sym (own (s .before .before) ∙ rw (in-range s, units m, paid p, not-held h, le-leb _ _ (c .if7 .taken)))
 
 returns-8 : tie.Need-returns-8
-unfolding admitRows payloadWrong firstRow
+unfolding admitRows firstRow
 returns-8 c =
-    let e = c .before .before .before in
-    sym (own (e .before .before .before .before .before .before .before .before .before) ∙ rw (lt-leb _ _ (e .before .before .before .before .before .before .before .if3 .left), holds (e .before .before .before .before .before .legal-mask .ensures) (e .before .before .before .before .if4 .left), sym (e .before .before .before .payload-wrong .ensures) ∙ e .before .before .if5 .left, sym (e .before .is-held .ensures) ∙ e .if6 .left, lt-leb _ _ (c .if7 .left)))
+    let h = c .before .before .before in
+    let p = h .before .before in
+    let m = p .before .before in
+    let s = m .before .before .before in
+    sym (own (s .before .before) ∙ rw (in-range s, units m, paid p, not-held h, lt-leb _ _ (c .if7 .left)))
 
 pub admit-refusal-spec : {M : Type 1} → statement M
 admit-refusal-spec =

@@ -72,18 +72,24 @@ returns-3 c = sym (own (c .before .before) ∙ rw (le-leb _ _ (c .if3 .taken)))
 
 returns-4 : tie.Need-returns-4
 unfolding collectRows firstRow
-returns-4 c = sym (own (c .before .before .before .before) ∙ rw (lt-leb _ _ (c .before .before .if3 .left), ne-eqb _ _ (c .if4 .taken)))
+returns-4 c = let s = c .before .before in sym (own (s .before .before) ∙ rw (lt-leb _ _ (s .if3 .left), ne-eqb _ _ (c .if4 .taken)))
 
 result-short-requires : tie.Need-result-short-requires
 result-short-requires c κs = omega (arith, state-bounds (c .before .before .before .before .before .before .before .before .before .before .before .before .before .args .state) (inside (c .before .before .before .before .before .before .before .before .before)))
 
 returns-5 : tie.Need-returns-5
 unfolding collectRows resultShort firstRow
-returns-5 c = sym (own (c .before .before .before .before .before .before) ∙ rw (lt-leb _ _ (c .before .before .before .before .if3 .left), eq-eqb _ _ (c .before .before .if4 .left), sym (c .before .result-short .ensures) ∙ c .if5 .taken))
+returns-5 c =
+    let k = c .before .before in
+    let s = k .before .before in
+    sym (own (s .before .before) ∙ rw (lt-leb _ _ (s .if3 .left), eq-eqb _ _ (k .if4 .left), sym (c .before .result-short .ensures) ∙ c .if5 .taken))
 
 returns-6 : tie.Need-returns-6
 unfolding collectRows resultShort firstRow
-returns-6 c = sym (own (c .before .before .before .before .before .before) ∙ rw (lt-leb _ _ (c .before .before .before .before .if3 .left), eq-eqb _ _ (c .before .before .if4 .left), sym (c .before .result-short .ensures) ∙ c .if5 .left))
+returns-6 c =
+    let k = c .before .before in
+    let s = k .before .before in
+    sym (own (s .before .before) ∙ rw (lt-leb _ _ (s .if3 .left), eq-eqb _ _ (k .if4 .left), sym (c .before .result-short .ensures) ∙ c .if5 .left))
 
 pub collect-refusal-spec : {M : Type 1} → statement M
 collect-refusal-spec =

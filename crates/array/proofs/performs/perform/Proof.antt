@@ -40,7 +40,10 @@ same-length-2 c = search needs
 
 returns : tie.Need-returns
 unfolding actionStep workAfter imageAfter
-returns c = let a = c .before .before .before .before .before .before .before .before .before .before .args in as-told (a .state) (a .i) (a .r) (now (a .work)) (now (a .image)) _ _ _ _ (ap actionStep (c .before .before .before .before .before .before .action .given .1)) (c .before .before .read .ensures) refl
+returns c =
+    let a = c .before .before .before .before .before .before .before .before .before .before .args in
+    as-told (a .state) (a .i) (a .r) (now (a .work)) (now (a .image)) _ _ _ _
+    (ap actionStep (c .before .before .before .before .before .before .action .given .1)) (c .before .before .read .ensures) refl
 
 same-length-3 : tie.Need-same-length-3
 same-length-3 c = search needs
@@ -50,7 +53,10 @@ same-length-4 c = search needs
 
 returns-2 : tie.Need-returns-2
 unfolding actionStep workAfter imageAfter
-returns-2 c = let a = c .before .before .before .before .before .before .before .before .before .args in as-told (a .state) (a .i) (a .r) (now (a .work)) (now (a .image)) _ _ _ _ (ap actionStep (c .before .before .before .before .before .enum-told .given .1)) (c .before .before .sum .ensures) refl
+returns-2 c =
+    let a = c .before .before .before .before .before .before .before .before .before .args in
+    as-told (a .state) (a .i) (a .r) (now (a .work)) (now (a .image)) _ _ _ _
+    (ap actionStep (c .before .before .before .before .before .enum-told .given .1)) (c .before .before .sum .ensures) refl
 
 same-length-5 : tie.Need-same-length-5
 same-length-5 c = search needs
@@ -60,11 +66,17 @@ same-length-6 c = search needs
 
 returns-3 : tie.Need-returns-3
 unfolding actionStep workAfter imageAfter
-returns-3 c = let a = c .before .before .before .before .before .before .before .before .before .before .args in as-told (a .state) (a .i) (a .r) (now (a .work)) (now (a .image)) _ _ _ _ (ap actionStep (c .before .before .before .before .before .before .action2 .given .1)) refl (c .before .before .write .ensures)
+returns-3 c =
+    let a = c .before .before .before .before .before .before .before .before .before .before .args in
+    as-told (a .state) (a .i) (a .r) (now (a .work)) (now (a .image)) _ _ _ _
+    (ap actionStep (c .before .before .before .before .before .before .action2 .given .1)) refl (c .before .before .write .ensures)
 
 returns-4 : tie.Need-returns-4
 unfolding actionStep workAfter imageAfter
-returns-4 c = let a = c .before .before .before .before .args in as-told (a .state) (a .i) (a .r) (now (a .work)) (now (a .image)) _ _ _ _ (ap actionStep (c .enum-told2 .given .1)) refl refl
+returns-4 c =
+    let a = c .before .before .before .before .args in
+    as-told (a .state) (a .i) (a .r) (now (a .work)) (now (a .image)) _ _ _ _
+    (ap actionStep (c .enum-told2 .given .1)) refl refl
 
 pub perform-spec : {M : Type 1} → statement M
 perform-spec =

@@ -45,7 +45,9 @@ same-length c = search needs
 returns : tie.Need-returns
 returns c =
     let s = c .before .before .before .before .before .before .before .before .before in
-    performed-read (s .args .state) (s .args .i) (s .args .r) (now (s .args .work)) (now (s .args .image)) (s .pre .0) (s .args .p) _ _ _ _ (s .pre .1) (c .before .before .before .before .before .before .card-at .ensures) (c .before .before .before .before .before .read-at .ensures) (c .before .before .before .cell .ensures) (c .before .before .copy .ensures)
+    let at = c .before .before .before .before .before in
+    performed-read (s .args .state) (s .args .i) (s .args .r) (now (s .args .work)) (now (s .args .image)) (s .pre .0) (s .args .p) _ _ _ _ (s .pre .1)
+    (at .before .card-at .ensures) (at .read-at .ensures) (c .before .before .before .cell .ensures) (c .before .before .copy .ensures)
 
 pub read-spec : {M : Type 1} → statement M
 read-spec =

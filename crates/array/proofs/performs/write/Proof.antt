@@ -60,7 +60,10 @@ same-length c = search needs
 returns : tie.Need-returns
 returns c =
     let s = c .before .before .before .before .before .before .before .before .before .before in
-    performed-write (s .args .state) (s .args .i) (s .args .r) (now (s .args .work)) (now (s .args .image)) (s .pre .0) (s .args .p) _ _ _ _ (s .pre .1) (c .before .before .before .before .before .before .before .card-at .ensures) (c .before .before .before .before .before .before .cell-at .ensures) (c .before .before .before .before .before .write-at .ensures) (c .before .before .copy .ensures)
+    let from = c .before .before .before .before .before in
+    let at = from .before in
+    performed-write (s .args .state) (s .args .i) (s .args .r) (now (s .args .work)) (now (s .args .image)) (s .pre .0) (s .args .p) _ _ _ _ (s .pre .1)
+    (at .before .card-at .ensures) (at .cell-at .ensures) (from .write-at .ensures) (c .before .before .copy .ensures)
 
 pub write-spec : {M : Type 1} → statement M
 write-spec =

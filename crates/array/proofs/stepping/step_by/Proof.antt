@@ -57,9 +57,12 @@ meets-out-requires : tie.Need-meets-out-requires
 meets-out-requires c κs = search needs
 
 -- whether the step's card is out
-meets : (c : tie.After-meets-out) (b : Bool) → c .meets-out .result ≡ b
-    → meetsOut (missingIn (c .before .before .before .before .before .before .before .before .before .before .args .state) (c .before .before .before .before .before .before .before .before .before .before .args .r .stripe)) (actionStep (c .before .before .before .before .before .step-of .result)) ≡ b
-meets c b q = ap (λ (x : ℕ). meetsOut x (actionStep (c .before .before .before .before .before .step-of .result))) (sym (accepted (c .before) .out-is)) ∙ sym (c .meets-out .ensures) ∙ q
+meets : (c : tie.After-meets-out) (b : Bool) → let a = c .before .before .before .before .before .before .before .before .before .before .args in c .meets-out .result ≡ b
+    → meetsOut (missingIn (a .state) (a .r .stripe)) (actionStep (c .before .before .before .before .before .step-of .result)) ≡ b
+meets c b q =
+    let k = accepted (c .before) in
+    let t = c .before .before .before .before .before in
+    ap (λ (x : ℕ). meetsOut x (actionStep (t .step-of .result))) (sym (k .out-is)) ∙ sym (c .meets-out .ensures) ∙ q
 
 after-choice-requires : tie.Need-after-choice-requires
 after-choice-requires c κs = search needs
@@ -73,14 +76,19 @@ same-length-4 c = search needs
 returns-2 : tie.Need-returns-2
 returns-2 c =
     let a = c .before .before .before .before .before .before .before .before .before .before .before .before .args in
-    let e = c .before .before .before in
-    stepping-afresh (a .state) (a .survey) (a .r) (now (a .work)) (now (a .image)) (a .i) (a .k) _ (e .before .step-refusal .ensures) (e .if1 .left) _ (action (c .before .before .before .before .before .before .before))
-    _ (meets (c .before .before) _ (c .before .if2 .taken)) (c .after-choice .ensures ∙ accepted e .afresh) (afresh-some (a .state) (a .r))
+    let m = c .before .before in
+    let e = m .before in
+    let n = e .before in
+    stepping-afresh (a .state) (a .survey) (a .r) (now (a .work)) (now (a .image)) (a .i) (a .k)
+    _ (n .step-refusal .ensures) (e .if1 .left) _ (action (n .before .before .before))
+    _ (meets m _ (c .before .if2 .taken)) (c .after-choice .ensures ∙ accepted e .afresh) (afresh-some (a .state) (a .r))
 
 perform-requires : tie.Need-perform-requires
 perform-requires c κs =
-    let k = accepted (c .before .before .before .before) in
-    (k .standing, told-within _ _ _ (omega (arith, legal-bounds _ _ _ _ (k .standing .limits))) (sym (action (c .before .before .before .before .before .before .before .before))), k .x-is, k .reads-are)
+    let e = c .before .before .before .before in
+    let k = accepted e in
+    let bounds = legal-bounds _ _ _ _ (k .standing .limits) in
+    (k .standing, told-within _ _ _ (omega (arith, bounds)) (sym (action (e .before .before .before .before))), k .x-is, k .reads-are)
 
 after-step-requires : tie.Need-after-step-requires
 after-step-requires c κs = search needs
@@ -94,10 +102,14 @@ same-length-6 c = search needs
 returns-3 : tie.Need-returns-3
 returns-3 c =
     let a = c .before .before .before .before .before .before .before .before .before .before .before .before .before .before .before .before .before .before .before .args in
-    let e = c .before .before .before .before .before .before .before .before .before .before in
-    let p = c .before .before .before .before .before .perform in
-    stepping-done (a .state) (a .survey) (a .r) (now (a .work)) (now (a .image)) (a .i) (a .k) _ (e .before .step-refusal .ensures) (e .if1 .left) _ (action (c .before .before .before .before .before .before .before .before .before .before .before .before .before .before))
-    _ _ _ (meets (c .before .before .before .before .before .before .before .before .before) _ (c .before .before .before .before .before .before .before .before .if2 .left)) (c .after-step .ensures ∙ accepted e .done) (p .ensures .0) (p .ensures .1)
+    let p = c .before .before .before .before .before in
+    let w = p .before .before .before in
+    let m = w .before in
+    let e = m .before in
+    let n = e .before in
+    stepping-done (a .state) (a .survey) (a .r) (now (a .work)) (now (a .image)) (a .i) (a .k)
+    _ (n .step-refusal .ensures) (e .if1 .left) _ (action (n .before .before .before))
+    _ _ _ (meets m _ (w .if2 .left)) (c .after-step .ensures ∙ accepted e .done) (p .perform .ensures .0) (p .perform .ensures .1)
 
 pub step-by-spec : {M : Type 1} → statement M
 step-by-spec =

@@ -76,7 +76,7 @@ returns-3 c = sym (own (c .before .before) ∙ rw (le-leb _ _ (c .if3 .taken)))
 
 returns-4 : tie.Need-returns-4
 unfolding stepRows firstRow
-returns-4 c = sym (own (c .before .before .before .before) ∙ rw (lt-leb _ _ (c .before .before .if3 .left), ne-eqb _ _ (c .if4 .taken)))
+returns-4 c = let s = c .before .before in sym (own (s .before .before) ∙ rw (lt-leb _ _ (s .if3 .left), ne-eqb _ _ (c .if4 .taken)))
 
 sub-ready-by : tie.Need-sub-ready-by
 sub-ready-by c = omega (arith, state-bounds (c .before .before .before .before .before .before .before .before .before .before .before .before .before .args .state) (inside (c .before .before .before .before .before .before .before .before .before)))
@@ -95,11 +95,17 @@ ready c =
 
 returns-5 : tie.Need-returns-5
 unfolding stepRows firstRow
-returns-5 c = sym (own (c .before .before .before .before .before .before .before) ∙ rw (lt-leb _ _ (c .before .before .before .before .before .if3 .left), eq-eqb _ _ (c .before .before .before .if4 .left), fails (ready (c .before)) (c .if5 .taken)))
+returns-5 c =
+    let k = c .before .before .before in
+    let s = k .before .before in
+    sym (own (s .before .before) ∙ rw (lt-leb _ _ (s .if3 .left), eq-eqb _ _ (k .if4 .left), fails (ready (c .before)) (c .if5 .taken)))
 
 returns-6 : tie.Need-returns-6
 unfolding stepRows firstRow
-returns-6 c = sym (own (c .before .before .before .before .before .before .before) ∙ rw (lt-leb _ _ (c .before .before .before .before .before .if3 .left), eq-eqb _ _ (c .before .before .before .if4 .left), holds (ready (c .before)) (c .if5 .left)))
+returns-6 c =
+    let k = c .before .before .before in
+    let s = k .before .before in
+    sym (own (s .before .before) ∙ rw (lt-leb _ _ (s .if3 .left), eq-eqb _ _ (k .if4 .left), holds (ready (c .before)) (c .if5 .left)))
 
 pub step-refusal-spec : {M : Type 1} → statement M
 step-refusal-spec =
