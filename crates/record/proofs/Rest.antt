@@ -30,6 +30,13 @@ and-true : (a b : Bool) → a ≡ b → (a && true) ≡ b
 and-true true b e = e
 and-true false b e = e
 
+not-first : (a b : Bool) → a ≡ false → not (a && b) ≡ true
+not-first a b e = ap (λ (t : Bool). not (t && b)) e
+
+not-second : (a b : Bool) → b ≡ false → not (a && b) ≡ true
+not-second true b e = ap not e
+not-second false b e = refl
+
 -- past the end nothing is put
 set-past : (l : List Record) (i : ℕ) (r : Record) → length l ≤ i → set l i r ≡ l
 set-past [] i r h = refl
@@ -186,8 +193,8 @@ module _ (st : State) (l : List Record) (i : ℕ) where
             and-both (surveyBut st l i .sound && soundRecord st r) clear
             (and-both (surveyBut st l i .sound) (soundRecord st r) (seen-sound ∙ rest-sound e) own)
             (⊎-elim
-            (λ o. rw (o, survey-held st rest looks-rest (r .stripe) (in-array own o), rest-apart below e o) refl)
-            (λ o. rw o refl)
+            (λ o. not-second (isOpen r) _ (survey-held st rest looks-rest (r .stripe) (in-array own o) ∙ rest-apart below e o))
+            (λ o. not-first (isOpen r) _ o)
             (truth (isOpen r)))
 
     pub sound-rest : soundWith st (surveyBut st l i) r ≡ sound st l
