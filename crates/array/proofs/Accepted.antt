@@ -10,7 +10,7 @@ use lib.Dec.{ltb, eqb}
 use lib.ListN.{length}
 use Rattle.terms.specs.Lists.{every}
 use Rattle.terms.proofs.Refusals.{Failed, giving, zero-failed, failed-first, failed-second}
-use Rattle.terms.proofs.Rows.{and-right, or-false-left, or-false-right}
+use Rattle.terms.proofs.Rows.{and-left, and-right, or-false-left, or-false-right}
 use Rattle.geometry.specs.Limits.{beyondState}
 use Rattle.geometry.specs.Store.{legalState, imageWrong, workWrong}
 use Rattle.geometry.specs.declared.State.{State}
@@ -25,6 +25,7 @@ use Rattle.record.specs.Life.{isOpen, isFinished, isWrite, isFree, unitsOf, cho
 use Rattle.record.specs.Look.{lookOf, found, afterStep, afterChoice}
 use Rattle.record.specs.declared.Look.{Look}
 use Rattle.record.specs.Sound.{soundRecord, legalMask}
+use Rattle.record.specs.Survey.{soundWith}
 use Rattle.record.specs.declared.Record.{Record}
 use Rattle.record.specs.declared.Survey.{Survey}
 use Rattle.record.proofs.Looks.{look-found, after-step-is, after-choice-is}
@@ -96,6 +97,11 @@ module _ (st : State) (r : Record) (look : Look) (is : look ≡ lookOf st r) (b 
   look-ready k t e =
       rw (few-units st b) (ready-of (unitsOf st) (r .graph) (r .mask) (chosenAt st r) (r .done) k (look .steps) (look .reads) t steps-found reads-found e)
 
+-- a table that is sound by a survey of the rest and a record has a sound record
+pub own-sound : (st : State) (v : Survey) (r : Record) → soundWith st v r ≡ true → soundRecord st r ≡ true
+unfolding soundWith
+own-sound st v r e = and-right (v .sound) (soundRecord st r) (and-left (v .sound && soundRecord st r) _ e)
+
 module _ (st : State) (v : Survey) (r : Record) (work image : List ℕ) (i k : ℕ) where
   -- an accepted step, by what a look at the record finds: it can be done, and the record after it is the paper's
   pub record Stepped (look : Look) : Type 0 where
@@ -112,12 +118,12 @@ module _ (st : State) (v : Survey) (r : Record) (work image : List ℕ) (i k : �
       let iw = imageWrong st image in
       let tw = tableWrong st (v .len) in
       let ww = workWrong st work in
-      let f : Failed (lentRows st (iw || tw || ww) (v .sound && soundRecord st r) ++ stepRows st r i k) =
-      zero-failed (lentRows st (iw || tw || ww) (v .sound && soundRecord st r) ++ stepRows st r i k) refl e in
-      let p = passed-rows st (iw || tw || ww) (v .sound && soundRecord st r) (failed-first (lentRows st (iw || tw || ww) (v .sound && soundRecord st r)) (stepRows st r i k) f) in
-      let own = failed-second (lentRows st (iw || tw || ww) (v .sound && soundRecord st r)) (stepRows st r i k) f in
+      let f : Failed (lentRows st (iw || tw || ww) (soundWith st v r) ++ stepRows st r i k) =
+      zero-failed (lentRows st (iw || tw || ww) (soundWith st v r) ++ stepRows st r i k) refl e in
+      let p = passed-rows st (iw || tw || ww) (soundWith st v r) (failed-first (lentRows st (iw || tw || ww) (soundWith st v r)) (stepRows st r i k) f) in
+      let own = failed-second (lentRows st (iw || tw || ww) (soundWith st v r)) (stepRows st r i k) f in
       let o = not-false (isOpen r) (own .1 .0) in
-      let sound = and-right (v .sound) (soundRecord st r) (p .is-fine) in
+      let sound = own-sound st v r (p .is-fine) in
       let few = few-units st (p .limits) in
       record {
         standing =
@@ -148,11 +154,11 @@ unfolding collectRefusal resultShort collectRows lentRows giving every Failed
 collect-accepted st v r work i result e reads =
     let tw = tableWrong st (v .len) in
     let ww = workWrong st work in
-    let f : Failed (lentRows st (tw || ww) (v .sound && soundRecord st r) ++ collectRows st r i result) =
-    zero-failed (lentRows st (tw || ww) (v .sound && soundRecord st r) ++ collectRows st r i result) refl e in
-    let p = passed-rows st (tw || ww) (v .sound && soundRecord st r) (failed-first (lentRows st (tw || ww) (v .sound && soundRecord st r)) (collectRows st r i result) f) in
-    let own = failed-second (lentRows st (tw || ww) (v .sound && soundRecord st r)) (collectRows st r i result) f in
-    let sound = and-right (v .sound) (soundRecord st r) (p .is-fine) in
+    let f : Failed (lentRows st (tw || ww) (soundWith st v r) ++ collectRows st r i result) =
+    zero-failed (lentRows st (tw || ww) (soundWith st v r) ++ collectRows st r i result) refl e in
+    let p = passed-rows st (tw || ww) (soundWith st v r) (failed-first (lentRows st (tw || ww) (soundWith st v r)) (collectRows st r i result) f) in
+    let own = failed-second (lentRows st (tw || ww) (soundWith st v r)) (collectRows st r i result) f in
+    let sound = own-sound st v r (p .is-fine) in
     record {
       limits = legal-state st (p .limits);
       record-below = leb-false (st .records) i (own .0);

@@ -21,7 +21,7 @@ use Rattle.record.specs.declared.Record.{Record}
 use Rattle.array.specs.Admission.{keepUnits, admissionBy, admission}
 use Rattle.array.specs.Lent.{tableWrong, lentRows, unitBytes}
 use Rattle.array.specs.Refusals.{admitRows, admitRefusal, payloadWrong}
-use Rattle.array.proofs.Lent.{Right, Lently, lent-right, passed-rows, rows-passed, own-rows, all-fine, free-seen, held-seen}
+use Rattle.array.proofs.Lent.{Right, Lently, sound-seen, lent-right, passed-rows, rows-passed, own-rows, all-fine, free-seen, held-seen}
 use Rattle.array.proofs.Replies.{number-is}
 
 module _ (st : State) (table : List Record) (work image : List ℕ) (write : Bool) (s mask : ℕ) (payload : List ℕ) where
@@ -51,7 +51,7 @@ module _ (st : State) (table : List Record) (work image : List ℕ) (write : Boo
     failed = zero-failed _ refl ok
 
     right : Right st table work image
-    right = lent-right st table work image _ (λ e. e) (passed-rows st wrong _ (failed-first (lentRows st wrong (surveyOf st table .sound)) _ failed))
+    right = lent-right st table work image _ _ (survey-len st table) (sound-seen st table) (passed-rows st wrong _ (failed-first (lentRows st wrong (surveyOf st table .sound)) _ failed))
 
     own : Failed (admitRows st (surveyOf st table) write s mask payload)
     own = failed-second (lentRows st wrong (surveyOf st table .sound)) _ failed

@@ -15,12 +15,12 @@ use Rattle.geometry.specs.declared.State.{State}
 use Rattle.record.proofs.Surveyed.{survey-len}
 use Rattle.record.specs.Life.{free, isFinished, isWrite}
 use Rattle.record.specs.Sound.{soundRecord}
-use Rattle.record.specs.Survey.{surveyOf}
+use Rattle.record.specs.Survey.{surveyBut, soundWith}
 use Rattle.record.specs.declared.Record.{Record}
 use Rattle.array.specs.Collection.{handOver, collectionBy, collection}
 use Rattle.array.specs.Lent.{tableWrong, lentRows}
 use Rattle.array.specs.Refusals.{collectRows, collectRefusal, resultShort}
-use Rattle.array.proofs.Lent.{Right, Lently, rows-passed, own-rows, collect-fine}
+use Rattle.array.proofs.Lent.{Right, Lently, rest-len, rows-passed, own-rows, collect-fine}
 use Rattle.array.proofs.Replies.{number-is}
 
 module _ (st : State) (table : List Record) (work : List ℕ) (i : ℕ) (result : List ℕ) where
@@ -29,7 +29,7 @@ module _ (st : State) (table : List Record) (work : List ℕ) (i : ℕ) (result 
 
   -- the number by which it is refused, 0 where it is accepted
   abbrev pub collectNumber : ℕ
-  collectNumber = collectRefusal st (surveyOf st table) the-record work i result
+  collectNumber = collectRefusal st (surveyBut st table i) the-record work i result
 
   pub collect-number : collection st table work i result .reply .number ≡ collectNumber
   unfolding collection collectionBy
@@ -42,10 +42,10 @@ module _ (st : State) (table : List Record) (work : List ℕ) (i : ℕ) (result 
     pub room : resultShort st the-record result ≡ false
 
   abbrev wrong : Bool
-  wrong = tableWrong st (surveyOf st table .len) || workWrong st work
+  wrong = tableWrong st (surveyBut st table i .len) || workWrong st work
 
   abbrev fine : Bool
-  fine = surveyOf st table .sound && soundRecord st the-record
+  fine = soundWith st (surveyBut st table i) the-record
 
   module _ (ok : collectNumber ≡ 0) where
     failed : Failed (lentRows st wrong fine ++ collectRows st the-record i result)
@@ -72,7 +72,7 @@ module _ (st : State) (table : List Record) (work : List ℕ) (i : ℕ) (result 
   pub collect-refused : ¬ (collectNumber ≡ 0)
       → collection st table work i result ≡ record { reply = refused collectNumber; table = table; result = result }
   unfolding collection collectionBy
-  collect-refused d = rw (ne-eqb collectNumber 0 d, survey-len st table, set-end table)
+  collect-refused d = rw (ne-eqb collectNumber 0 d, rest-len st table i, set-end table)
 
   module _ (image : List ℕ) (right : Right st table work image) where
     -- what is lent right is not refused for it

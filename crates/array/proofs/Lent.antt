@@ -9,7 +9,7 @@ use mathlib.Core.Path.{_≡_, sym, ap, _∙_}
 use native.Mathlib.Omega.{arith}
 use borrow.Author.Tests.{eqb-true, eq-eqb, ltb-true, not-false}
 use lib.Dec.{ltb}
-use lib.ListN.{length, getD}
+use lib.ListN.{length, getD, set, length-set}
 use Rattle.terms.specs.Reply.{Row, firstRow}
 use Rattle.terms.proofs.Refusals.{Failed, giving, given, firstRow-behind}
 use Rattle.terms.proofs.Rows.{or-false-left, or-false-right, and-both}
@@ -17,11 +17,11 @@ use Rattle.geometry.proofs.Lengths.{state-bounds, image-length, work-length}
 use Rattle.geometry.specs.Limits.{beyondState}
 use Rattle.geometry.specs.Store.{imageWrong, workWrong, imageSize, workSize}
 use Rattle.geometry.specs.declared.State.{State}
-use Rattle.record.proofs.Soundness as soundness
+use Rattle.record.proofs.Rest.{sound-rest}
 use Rattle.record.proofs.Surveyed.{looks-within, survey-len, survey-sound, survey-free, survey-held}
 use Rattle.record.specs.Life.{free}
 use Rattle.record.specs.Sound.{sound, soundRecord, held, lowestFree}
-use Rattle.record.specs.Survey.{looksAt, surveyOf, heldIn}
+use Rattle.record.specs.Survey.{looksAt, surveyOf, surveyBut, heldIn, soundWith}
 use Rattle.record.specs.declared.Record.{Record}
 use Rattle.array.specs.Lent.{tableWrong, lentRows}
 
@@ -52,6 +52,14 @@ module _ (st : State) (table : List Record) (limits : beyondState st ≡ false) 
 
   pub held-seen : (s : ℕ) → s < st .stripes → heldIn (surveyOf st table) s ≡ held table s
   held-seen s h = survey-held st table looks s (omega (arith, state-bounds st limits))
+
+  -- and so is a survey of the rest, with the record that was left out
+  pub with-seen : (i : ℕ) → soundWith st (surveyBut st table i) (getD table i free) ≡ sound st table
+  with-seen i = sound-rest st table i looks (omega (arith, state-bounds st limits))
+
+-- the rest of a table is as long
+pub rest-len : (st : State) (table : List Record) (i : ℕ) → surveyBut st table i .len ≡ length table
+rest-len st table i = survey-len st (set table i free) ∙ length-set table i free
 
 -- every test of refusals 1 to 4 failed
 pub record Passed (st : State) (wrong fine : Bool) : Type 0 where
@@ -120,36 +128,41 @@ module _ (st : State) (table : List Record) (work image : List ℕ) (right : Rig
       }
 
   module _ (i : ℕ) where
-    both-sound : (surveyOf st table .sound && soundRecord st (getD table i free)) ≡ true
-    both-sound = and-both _ _ seen-sound (soundness.sound-record st table (right .is-sound) i)
+    rest-not-wrong : tableWrong st (surveyBut st table i .len) ≡ false
+    unfolding tableWrong
+    rest-not-wrong = ap not (eq-eqb (surveyBut st table i .len) (st .records) (rest-len st table i ∙ right .table-right))
 
-    pub step-fine : Passed st (imageWrong st image || tableWrong st (surveyOf st table .len) || workWrong st work)
-        (surveyOf st table .sound && soundRecord st (getD table i free))
+    with-sound : soundWith st (surveyBut st table i) (getD table i free) ≡ true
+    with-sound = with-seen st table (right .limits) (right .table-right) i ∙ right .is-sound
+
+    pub step-fine : Passed st (imageWrong st image || tableWrong st (surveyBut st table i .len) || workWrong st work)
+        (soundWith st (surveyBut st table i) (getD table i free))
     step-fine =
         record {
           limits = right .limits;
-          lengths = rw (image-not-wrong, table-not-wrong, work-not-wrong);
-          is-fine = both-sound;
+          lengths = rw (image-not-wrong, rest-not-wrong, work-not-wrong);
+          is-fine = with-sound;
           whole = right .whole;
         }
 
-    pub collect-fine : Passed st (tableWrong st (surveyOf st table .len) || workWrong st work)
-        (surveyOf st table .sound && soundRecord st (getD table i free))
+    pub collect-fine : Passed st (tableWrong st (surveyBut st table i .len) || workWrong st work)
+        (soundWith st (surveyBut st table i) (getD table i free))
     collect-fine =
-        record { limits = right .limits; lengths = rw (table-not-wrong, work-not-wrong); is-fine = both-sound; whole = right .whole }
+        record { limits = right .limits; lengths = rw (rest-not-wrong, work-not-wrong); is-fine = with-sound; whole = right .whole }
 
--- and the other way: a call that is lent all three, and passes these tests, is lent what is right
-pub lent-right : (st : State) (table : List Record) (work image : List ℕ) (fine : Bool) → (fine ≡ true → surveyOf st table .sound ≡ true)
-    → Passed st (imageWrong st image || tableWrong st (surveyOf st table .len) || workWrong st work) fine → Right st table work image
-lent-right st table work image fine seen p =
-    let both : Bool = imageWrong st image || tableWrong st (surveyOf st table .len) in
+-- and the other way: a call that is lent all three, and passes these tests by a survey of as many records, is lent what is right
+pub lent-right : (st : State) (table : List Record) (work image : List ℕ) (len : ℕ) (fine : Bool) → len ≡ length table
+    → (beyondState st ≡ false → length table ≡ st .records → fine ≡ sound st table)
+    → Passed st (imageWrong st image || tableWrong st len || workWrong st work) fine → Right st table work image
+lent-right st table work image len fine same seen p =
+    let both : Bool = imageWrong st image || tableWrong st len in
     let front = or-false-left both (workWrong st work) (p .lengths) in
-    let long = sym (survey-len st table) ∙ table-length st _ (or-false-right (imageWrong st image) (tableWrong st (surveyOf st table .len)) front) in
+    let long = sym same ∙ table-length st len (or-false-right (imageWrong st image) (tableWrong st len) front) in
     record {
       limits = p .limits;
-      image-right = image-length st image (or-false-left (imageWrong st image) (tableWrong st (surveyOf st table .len)) front);
+      image-right = image-length st image (or-false-left (imageWrong st image) (tableWrong st len) front);
       table-right = long;
       work-right = work-length st work (or-false-right both (workWrong st work) (p .lengths));
-      is-sound = sym (sound-seen st table (p .limits) long) ∙ seen (p .is-fine);
+      is-sound = sym (seen (p .limits) long) ∙ p .is-fine;
       whole = p .whole;
     }

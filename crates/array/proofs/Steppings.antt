@@ -18,12 +18,12 @@ use Rattle.graph.specs.Steps.{stepOf}
 use Rattle.record.proofs.Surveyed.{survey-len}
 use Rattle.record.specs.Life.{free, isOpen, missingIn, unitsOf}
 use Rattle.record.specs.Sound.{soundRecord}
-use Rattle.record.specs.Survey.{surveyOf}
+use Rattle.record.specs.Survey.{surveyBut, soundWith}
 use Rattle.record.specs.declared.Record.{Record}
 use Rattle.array.specs.Lent.{tableWrong, lentRows}
 use Rattle.array.specs.Refusals.{stepRows, stepRefusal, stepReady}
 use Rattle.array.specs.Stepping.{SteppingBy, meetsOut, accepting, steppingBy, stepping}
-use Rattle.array.proofs.Lent.{Right, Lently, lent-right, passed-rows, rows-passed, own-rows, step-fine}
+use Rattle.array.proofs.Lent.{Right, Lently, rest-len, with-seen, lent-right, passed-rows, rows-passed, own-rows, step-fine}
 
 -- an accepted step answers 0, done or chosen afresh, and changes the record's own place
 module _ (st : State) (work image : List ℕ) (i : ℕ) (r : Record) (k : ℕ) where
@@ -52,7 +52,7 @@ module _ (st : State) (table : List Record) (work image : List ℕ) (i k : ℕ) 
 
   -- the number by which it is refused, 0 where it is accepted
   abbrev pub stepNumber : ℕ
-  stepNumber = stepRefusal st (surveyOf st table) the-record work image i k
+  stepNumber = stepRefusal st (surveyBut st table i) the-record work image i k
 
   pub step-number : stepping st table work image i k .reply .number ≡ stepNumber
   unfolding stepping steppingBy
@@ -60,7 +60,7 @@ module _ (st : State) (table : List Record) (work image : List ℕ) (i k : ℕ) 
     where
       go : (t : Bool) → eqb stepNumber 0 ≡ t
           → cond t (accepting st work image i the-record k)
-          (record { reply = refused stepNumber; place = surveyOf st table .len; stands = free; work = work; image = image }) .reply .number ≡ stepNumber
+          (record { reply = refused stepNumber; place = surveyBut st table i .len; stands = free; work = work; image = image }) .reply .number ≡ stepNumber
       go true e = accepting-number st work image i the-record k ∙ sym (eqb-true stepNumber 0 e)
       go false e = refl
 
@@ -72,10 +72,10 @@ module _ (st : State) (table : List Record) (work image : List ℕ) (i k : ℕ) 
     pub is-ready : stepReady st the-record k ≡ true
 
   abbrev wrong : Bool
-  wrong = imageWrong st image || tableWrong st (surveyOf st table .len) || workWrong st work
+  wrong = imageWrong st image || tableWrong st (surveyBut st table i .len) || workWrong st work
 
   abbrev fine : Bool
-  fine = surveyOf st table .sound && soundRecord st the-record
+  fine = soundWith st (surveyBut st table i) the-record
 
   module _ (ok : stepNumber ≡ 0) where
     failed : Failed (lentRows st wrong fine ++ stepRows st the-record i k)
@@ -90,7 +90,7 @@ module _ (st : State) (table : List Record) (work image : List ℕ) (i k : ℕ) 
     step-passed =
         record {
           right =
-              lent-right st table work image _ (λ e. and-left (surveyOf st table .sound) (soundRecord st the-record) e)
+              lent-right st table work image _ fine (rest-len st table i) (λ b l. with-seen st table b l i)
               (passed-rows st wrong fine (failed-first (lentRows st wrong fine) _ failed));
           record-below = leb-false (st .records) i (own .0);
           is-open = not-false _ (own .1 .0);
@@ -106,7 +106,7 @@ module _ (st : State) (table : List Record) (work image : List ℕ) (i k : ℕ) 
   pub step-refused : ¬ (stepNumber ≡ 0)
       → stepping st table work image i k ≡ record { reply = refused stepNumber; table = table; work = work; image = image }
   unfolding stepping steppingBy
-  step-refused d = rw (ne-eqb stepNumber 0 d, survey-len st table, set-end table)
+  step-refused d = rw (ne-eqb stepNumber 0 d, rest-len st table i, set-end table)
 
   -- what is lent right is not refused for it
   pub step-lently : Right st table work image → Lently stepNumber

@@ -11,12 +11,12 @@ ghost use Rattle.array.specs.Outcomes.{CollectionIs};
 ghost use Rattle.array.specs.Premises.{Keeping};
 ghost use Rattle.array.specs.Refusals.{collectRefusal};
 ghost use Rattle.record.specs.Life.{free, isWrite, recordsOf};
-ghost use Rattle.record.specs.Survey.{surveyOf};
+ghost use Rattle.record.specs.Survey.{surveyBut};
 use crate::answers::Collected;
 use crate::answers::Collection;
 use crate::places::read_at;
-use crate::refusals::both_sound;
 use crate::refusals::lent_refusal;
+use crate::refusals::sound_with;
 use crate::refusals::stores_wrong;
 use crate::refusals::unit_bytes;
 use block::carry;
@@ -71,7 +71,7 @@ fn collect_refusal(
         return 1;
     }
     let wrong = stores_wrong(state, survey.len, work);
-    let sound = both_sound(survey.sound, r.is_sound(state));
+    let sound = sound_with(survey, r, r.is_sound(state));
     let first = lent_refusal(state, wrong, sound);
     if first != 0 {
         return first;
@@ -88,7 +88,7 @@ fn collect_refusal(
     0
 }
 
-// Collects finished record i, which is r, by a survey of the table: the answer, and the freed record, with its place.
+// Collects finished record i, which is r, by a survey of the rest of the table: the answer, and the freed record, with its place.
 pub fn collect_by(
     state: State,
     survey: Survey,
@@ -119,9 +119,9 @@ pub fn collect_by(
 
 // Collects finished record i: the answer, and the freed record, with its place.
 pub fn collect(state: State, table: Table, work: &[u8], i: u64, result: &mut [u8]) -> Collection
-    ensures { λ o. ⌜ CollectionIs (collectionBy state (surveyOf state (recordsOf table)) (getD (recordsOf table) i free) (now (work .entry)) i (now (result .entry))) o (now (result .exit)) ⌝ }
+    ensures { λ o. ⌜ CollectionIs (collectionBy state (surveyBut state (recordsOf table) i) (getD (recordsOf table) i free) (now (work .entry)) i (now (result .entry))) o (now (result .exit)) ⌝ }
 {
-    let survey = table.survey(state);
+    let survey = table.survey_but(state, i);
     let r = table.at(i);
     collect_by(state, survey, r, work, i, result)
 }

@@ -1,15 +1,19 @@
 // The tests that calls on the table begin with, and the bytes of a mask's units.
 // Assumes nothing.
-ghost use mathlib.Core.Bool.{true, false, _&&_, _||_};
+ghost use mathlib.Core.Bool.{true, false, not, _&&_, _||_};
 ghost use mathlib.Core.Path.{_≡_};
 ghost use Prim.Native.Nat.{_≤_};
 ghost use Rattle.terms.specs.Reply.{firstRow};
 ghost use Rattle.array.specs.Lent.{tableWrong, lentRows, unitBytes};
 ghost use Rattle.geometry.specs.Limits.{beyondState};
 ghost use Rattle.geometry.specs.Store.{legalState, imageWrong, workWrong};
+ghost use Rattle.record.specs.Life.{isOpen};
+ghost use Rattle.record.specs.Survey.{heldIn};
 use crate::places::image_size;
 use crate::places::work_size;
 use geometry::State;
+use record::Record;
+use record::Survey;
 
 // Whether the image is not of its length.
 pub(crate) fn image_wrong(state: State, image: &[u8]) -> bool
@@ -41,14 +45,20 @@ pub(crate) fn lent_wrong(state: State, len: u64, work: &[u8], image: &[u8]) -> b
     stores_wrong(state, len, work)
 }
 
-// Whether the table is sound, by its survey, and the record that the call is about.
-pub(crate) fn both_sound(table: bool, record: bool) -> bool
-    ensures { λ r. ⌜ r ≡ (table && «record») ⌝ }
+// Whether the table is sound, by a survey of the rest of it and the record that the call is about, of which it is known whether it is.
+pub(crate) fn sound_with(survey: Survey, r: Record, own: bool) -> bool
+    ensures { λ b. ⌜ b ≡ (survey .sound && own && not (isOpen r && heldIn survey (r .stripe))) ⌝ }
 {
-    if !table {
+    if !survey.sound {
         return false;
     }
-    record
+    if !own {
+        return false;
+    }
+    if r.phase != 1 {
+        return true;
+    }
+    !survey.is_held(r.stripe)
 }
 
 // Refusals 2 to 4 of a call on the table, whose state is within its limits; 0: none.

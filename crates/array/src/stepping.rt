@@ -9,13 +9,13 @@ ghost use Rattle.graph.specs.Asked.{actionStep};
 ghost use Rattle.graph.specs.Steps.{stepOf};
 ghost use Rattle.record.specs.Life.{free, recordsOf, unitsOf};
 ghost use Rattle.record.specs.Look.{lookOf};
-ghost use Rattle.record.specs.Survey.{surveyOf};
+ghost use Rattle.record.specs.Survey.{surveyBut};
 use crate::answers::Stepped;
 use crate::answers::Stepping;
 use crate::performs::perform;
-use crate::refusals::both_sound;
 use crate::refusals::lent_refusal;
 use crate::refusals::lent_wrong;
+use crate::refusals::sound_with;
 use geometry::State;
 use graph::Action;
 use graph::ready_by;
@@ -55,7 +55,7 @@ fn step_refusal(
         return 1;
     }
     let wrong = lent_wrong(state, survey.len, work, image);
-    let sound = both_sound(survey.sound, look.sound);
+    let sound = sound_with(survey, r, look.sound);
     let first = lent_refusal(state, wrong, sound);
     if first != 0 {
         return first;
@@ -92,7 +92,7 @@ fn meets_out(action: Action, x: u64) -> bool
     }
 }
 
-// Does step k of record i, which is r, by a survey of the table: the answer, and the record after it, with its place.
+// Does step k of record i, which is r, by a survey of the rest of the table: the answer, and the record after it, with its place.
 pub fn step_by(
     state: State,
     survey: Survey,
@@ -140,9 +140,9 @@ pub fn step(
     i: u64,
     k: u64,
 ) -> Stepping
-    ensures { λ o. ⌜ SteppingIs (steppingBy state (surveyOf state (recordsOf table)) (getD (recordsOf table) i free) (now (work .entry)) (now (image .entry)) i k) o (now (work .exit)) (now (image .exit)) ⌝ }
+    ensures { λ o. ⌜ SteppingIs (steppingBy state (surveyBut state (recordsOf table) i) (getD (recordsOf table) i free) (now (work .entry)) (now (image .entry)) i k) o (now (work .exit)) (now (image .exit)) ⌝ }
 {
-    let survey = table.survey(state);
+    let survey = table.survey_but(state, i);
     let r = table.at(i);
     step_by(state, survey, r, work, image, i, k)
 }

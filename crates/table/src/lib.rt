@@ -4,7 +4,7 @@ ghost use mathlib.Core.Path.{_≡_};
 ghost use lib.ListN.{length, getD, set, replicate};
 ghost use mathlib.Core.Bool.{cond};
 ghost use Rattle.record.specs.Life.{free};
-ghost use Rattle.record.specs.Survey.{surveyOf};
+ghost use Rattle.record.specs.Survey.{surveyBut};
 use geometry::State;
 use record::Record;
 use record::Survey;
@@ -35,9 +35,9 @@ pub fn replace(table: &mut [Record], i: u64, r: Record)
     }
 }
 
-// What one look at the table finds.
-pub fn surveyed(table: &[Record], state: State) -> Survey
-    ensures { λ r. ⌜ r ≡ surveyOf state (now (table .entry)) ⌝ }
+// What one look at the rest of the table finds, with a record left out: at a place from 8 on, none is.
+pub fn surveyed(table: &[Record], state: State, but: u64) -> Survey
+    ensures { λ r. ⌜ r ≡ surveyBut state (now (table .entry)) but ⌝ }
 {
     let n = count(table);
     let top = Survey::to_see(state, n);
@@ -45,7 +45,7 @@ pub fn surveyed(table: &[Record], state: State) -> Survey
     let mut i: u64 = 0;
     while i < top {
         let r = at(table, i);
-        survey = survey.seen(state, i, r);
+        survey = survey.seen_but(state, i, r, but);
         i += 1;
     }
     survey

@@ -1,4 +1,4 @@
--- `table::surveyed` meets its contract: a walk of its MIR, by hand. The slice is lent on to `count` once, and to `at` in each turn of the loop. Before turn i the survey is that of the first i records (`seenTo`).
+-- `table::surveyed` meets its contract: a walk of its MIR, by hand. The slice is lent on to `count` once, and to `at` in each turn of the loop. Before turn i the survey is that of the first i records (`seenTo`), with the record at `but` left out.
 -- Assumes nothing.
 use Rattle.walk.proofs.Words.{_≡_, refl, _∙_, ap, subst, ℕ, zero, _+_, _-_, _<_, _≤_, _^_, arith, List, [], _∷_, _++_, none, some, lit<, ltb→lt, nltb→le, length, getD, fullShare, named, Val, ‵, fat, flft, id⊢, Item, _$_, !, move, rewrite}
 use Rattle.walk.proofs.Words.{again, look, store, forget, stop, from, lit, of-opd, bin, assigns-last, first, blocks, and-then, no-more, returns, Is, RefT, Room, Spots, holding, aside, end, full, room, leaves, local, sets, lands-in, lands-over, tests, twice}
@@ -34,15 +34,15 @@ less : (i top : ℕ) → i < top → top - (i + 1) < top - i
 less i top h = omega arith
 
 -- before the first record
-none-seen : (st : State) (l : List Record) → started st (length l) ≡ seenTo st l 0
+none-seen : (st : State) (l : List Record) (but : ℕ) → started st (length l) ≡ seenTo st (set l but free) 0
 unfolding seenTo
-none-seen st l = refl
+none-seen st l but = ap (started st) (sym (length-set l but free))
 
 abbrev it : Subject
 it = record { ended = surveyed.ended; clauses = surveyed.clauses }
 
 abbrev params : Known it
-params = (shared 0 tt T.the-row, (by-value array-state, tt))
+params = (shared 0 tt T.the-row, (by-value array-state, (by-value number, tt)))
 
 -- the functions that it calls
 abbrev counting : Callee
@@ -58,7 +58,7 @@ abbrev starting : Callee
 starting = record { name = Sv.started.Symbol.name; routine = Sv.started.Symbol.routine; subject = record { ended = Sv.started.ended; clauses = Sv.started.clauses }; met = Sv.started.Met.met }
 
 abbrev seeing : Callee
-seeing = record { name = Sv.seen.Symbol.name; routine = Sv.seen.Symbol.routine; subject = record { ended = Sv.seen.ended; clauses = Sv.seen.clauses }; met = Sv.seen.Met.met }
+seeing = record { name = Sv.seen_but.Symbol.name; routine = Sv.seen_but.Symbol.routine; subject = record { ended = Sv.seen_but.ended; clauses = Sv.seen_but.clauses }; met = Sv.seen_but.Met.met }
 
 module _ (m : Machine) (e : Entry m it params) where
   abbrev x : RefT (List Record)
@@ -66,6 +66,13 @@ module _ (m : Machine) (e : Entry m it params) where
 
   abbrev st : State
   st = e .args .1 .0
+
+  abbrev but : ℕ
+  but = e .args .1 .1 .0
+
+  -- the table without the record that is left out
+  abbrev rest : List Record
+  rest = set (x .now) but free
 
   abbrev n : ℕ
   n = length (x .now)
@@ -80,8 +87,12 @@ module _ (m : Machine) (e : Entry m it params) where
   abbrev r : ℕ → Record
   r i = getD (x .now) i free
 
+  -- or a free one, where it is left out
+  abbrev picked : ℕ → Record
+  picked i = cond (eqb i but) free (r i)
+
   abbrev v : ℕ → Survey
-  v i = seenTo st (x .now) i
+  v i = seenTo st rest i
 
   abbrev fits : Room T.the-row n
   fits = e .are .0 .0 .1
@@ -115,17 +126,17 @@ module _ (m : Machine) (e : Entry m it params) where
         (had (made (gives m number (t .0) (refl, fits-64 (t .0) top (ltb→lt (t .0) top below) top-fits)) nil)) (and-then ! (local ! 4 refl) (and-then ! (local ! 14 refl) (no-more !))) (λ _ is-r.
         lands-in ! 16 refl (typed m request (r (t .0)) is-r .0) $
         -- [the token; what table owns; _0; …; _8; …; what state owns]
-        answers m seeing surveyed.Code.env surveyed.Code.calls-record·Survey·seen ((tt, tt, tt, (v (t .0), (st, (t .0, (r (t .0), tt)))), (survey .val (v (t .0)) ∷ [], (array-state .val st ∷ [], (number .val (t .0) ∷ [], (request .val (r (t .0)) ∷ [], tt))))), tt) ! (id⊢ (m .𝓤) _) survey (seen st (v (t .0)) (t .0) (r (t .0))) (λ _ _. id⊢ (m .𝓤) _)
-        (made (gives m survey (v (t .0)) (t .2)) (made (gives m array-state st (e .are .1 .0)) (made (gives m number (t .0) (refl, fits-64 (t .0) top (ltb→lt (t .0) top below) top-fits)) (made (gives m request (r (t .0)) is-r) nil))))
+        answers m seeing surveyed.Code.env surveyed.Code.calls-record·Survey·seen-but ((tt, tt, tt, (v (t .0), (st, (t .0, (r (t .0), (but, tt))))), (survey .val (v (t .0)) ∷ [], (array-state .val st ∷ [], (number .val (t .0) ∷ [], (request .val (r (t .0)) ∷ [], (number .val but ∷ [], tt)))))), tt) ! (id⊢ (m .𝓤) _) survey (seen st (v (t .0)) (t .0) (picked (t .0))) (λ _ _. id⊢ (m .𝓤) _)
+        (made (gives m survey (v (t .0)) (t .2)) (made (gives m array-state st (e .are .1 .0)) (made (gives m number (t .0) (refl, fits-64 (t .0) top (ltb→lt (t .0) top below) top-fits)) (made (gives m request (r (t .0)) is-r) (made (gives m number but (e .are .1 .1 .0)) nil)))))
         (and-then ! (local ! 13 refl) (and-then ! (local ! 7 refl) (and-then ! (local ! 15 refl) (and-then ! (local ! 17 refl) (no-more !))))) (λ _ is-v.
-        lands-over ! 12 refl (typed m survey (seen st (v (t .0)) (t .0) (r (t .0))) is-v .0) $
+        lands-over ! 12 refl (typed m survey (seen st (v (t .0)) (t .0) (picked (t .0))) is-v .0) $
         assigns-last ! (bin ! (local ! 14 refl) (lit ! tt) (record { fits = next-fits (t .0) top (ltb→lt (t .0) top below) top-fits })) (from ! (stop !)) (store ! 14 refl (tt, record { fits = next-fits (t .0) top (ltb→lt (t .0) top below) top-fits })) $
-        forget ! 16 refl $ forget ! 18 refl $ rewrite ! 12 Held (seen-next st (x .now) (t .0)) refl $
-        again ! (λ (y x : Place). left y < left x) Before t (t .0 + 1, next-within (t .0) top (ltb→lt (t .0) top below), subst (λ (u : Survey). Is Sv.the-row u (survey .val u ∷ [])) (seen-next st (x .now) (t .0)) is-v) (less (t .0) top (ltb→lt (t .0) top below)))))
+        forget ! 16 refl $ forget ! 18 refl $ rewrite ! 12 Held (seen-rest st (x .now) but (t .0)) refl $
+        again ! (λ (y x : Place). left y < left x) Before t (t .0 + 1, next-within (t .0) top (ltb→lt (t .0) top below), subst (λ (u : Survey). Is Sv.the-row u (survey .val u ∷ [])) (seen-rest st (x .now) but (t .0)) is-v) (less (t .0) top (ltb→lt (t .0) top below)))))
         (λ past. resumes m it params e ! surveyed.Code.env surveyed.Code.function l surveyed.Code.Mir.t-6 $
         sets ! (of-opd ! (local ! 12 refl)) 2 refl (typed m survey (v (t .0)) (t .2) .0) $
         returns ! (look ! 2 refl) $ aside ! 2 $ leaves ! (full (full (full (full (full (full (full (room (full end))))))))) $ aside ! 1 $
-        ends m it params e survey (v (t .0)) (t .2) (tt, (tt, tt)) (tt, (tt, tt)) (holds m (ap v (le-antisymm (t .1) (nltb→le (t .0) top past)) ∙ survey-is st (x .now))) (had (had nil)))
+        ends m it params e survey (v (t .0)) (t .2) (tt, (tt, tt)) (tt, (tt, tt)) (holds m (ap v (le-antisymm (t .1) (nltb→le (t .0) top past)) ∙ past-seen)) (had (had nil)))
 
   walk : Walk m it params e surveyed.Code.env surveyed.Code.function
   walk l =
@@ -138,9 +149,9 @@ module _ (m : Machine) (e : Entry m it params) where
       lands-in ! 10 refl (tt, record { fits = is-top .1 }) $
       answers m starting surveyed.Code.env surveyed.Code.calls-record·Survey·started ((tt, tt, tt, (st, (n, tt)), (array-state .val st ∷ [], (number .val n ∷ [], tt))), tt) ! (id⊢ (m .𝓤) _) survey (started st n) (λ _ _. id⊢ (m .𝓤) _)
       (made (gives m array-state st (e .are .1 .0)) (made (gives m number n is-n) nil)) (and-then ! (local ! 7 refl) (and-then ! (local ! 9 refl) (no-more !))) (λ _ is-v.
-      lands-in ! 12 refl (typed m survey (started st n) is-v .0) $ rewrite ! 12 (Held l) (none-seen st (x .now)) refl $
+      lands-in ! 12 refl (typed m survey (started st n) is-v .0) $ rewrite ! 12 (Held l) (none-seen st (x .now) but) refl $
       sets ! (of-opd ! (lit ! tt)) 14 refl (tt, record { fits = lit< tt }) $ first ! $ blocks ! $
-      turns m surveyed.Code.env ! (left l) (Before l) (turn l (is-top .1)) (zero, omega arith, subst (λ (u : Survey). Is Sv.the-row u (survey .val u ∷ [])) (none-seen st (x .now)) is-v))))
+      turns m surveyed.Code.env ! (left l) (Before l) (turn l (is-top .1)) (zero, omega arith, subst (λ (u : Survey). Is Sv.the-row u (survey .val u ∷ [])) (none-seen st (x .now) but) is-v))))
 
 pub surveyed-spec : {M : Type 1} → surveyed.Statement.statement M
 unfolding surveyed.Code.routine

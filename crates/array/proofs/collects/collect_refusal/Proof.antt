@@ -1,6 +1,6 @@
 -- `array::collects::collect_refusal` meets its contract: each `return` is the first row whose test holds.
 -- Assumes nothing.
-use mathlib.Core.Bool.{Bool, false, _&&_, _||_}
+use mathlib.Core.Bool.{Bool, false, not, _&&_, _||_}
 use mathlib.Core.Path.{_≡_, sym, ap, ap₂, _∙_}
 use native.Mathlib.Omega.{arith}
 use borrow.Author.Tests.{eq-eqb, ne-eqb, le-leb, lt-leb}
@@ -9,7 +9,8 @@ use Rattle.terms.specs.Reply.{firstRow}
 use Rattle.geometry.specs.Limits.{beyondState}
 use Rattle.geometry.specs.Store.{workWrong}
 use Rattle.geometry.proofs.Lengths.{state-bounds}
-use Rattle.record.specs.Sound.{soundRecord}
+use Rattle.record.specs.Life.{isOpen}
+use Rattle.record.specs.Survey.{heldIn, soundWith}
 use Rattle.array.specs.Lent.{tableWrong, lentRows}
 use Rattle.array.specs.Refusals.{collectRefusal, collectRows, resultShort}
 use Rattle.array.proofs.Accepted.{legal-state, sound-within}
@@ -35,23 +36,24 @@ stores-wrong-requires c κs = legal-state (c .before .before .before .before .ar
 is-sound-requires : tie.Need-is-sound-requires
 is-sound-requires c κs = search needs
 
-both-sound-requires : tie.Need-both-sound-requires
-both-sound-requires c κs = search needs
+sound-with-requires : tie.Need-sound-with-requires
+sound-with-requires c κs = search needs
 
 lent-refusal-requires : tie.Need-lent-refusal-requires
 lent-refusal-requires c κs = inside (c .before .before .before)
 
-sound : (c : tie.After-both-sound) → let a = c .before .before .before .before .before .before .before .args in c .both-sound .result ≡ (a .survey .sound && soundRecord (a .state) (a .r))
+sound : (c : tie.After-sound-with) → let a = c .before .before .before .before .before .before .before .args in c .sound-with .result ≡ soundWith (a .state) (a .survey) (a .r)
+unfolding soundWith
 sound c =
     let a = c .before .before .before .before .before .before .before .args in
-    c .both-sound .ensures ∙ ap (λ (b : Bool). a .survey .sound && b) (c .before .is-sound .ensures ∙ sound-within (a .state) (a .r) (inside (c .before .before .before)))
+    c .sound-with .ensures ∙ ap (λ (b : Bool). a .survey .sound && b && not (isOpen (a .r) && heldIn (a .survey) (a .r .stripe))) (c .before .is-sound .ensures ∙ sound-within (a .state) (a .r) (inside (c .before .before .before)))
 
 -- rows 1 to 4; where none of them refuses the call's own are left
 lent : (c : tie.After-lent-refusal) → let a = c .before .before .before .before .before .before .before .before .args in
     c .lent-refusal .result
     ≡ firstRow
     (lentRows (a .state) (tableWrong (a .state) (a .survey .len) || workWrong (a .state) (now (a .work)))
-    (a .survey .sound && soundRecord (a .state) (a .r)))
+    (soundWith (a .state) (a .survey) (a .r)))
 lent c =
     let a = c .before .before .before .before .before .before .before .before .args in
     c .lent-refusal .ensures
@@ -99,7 +101,7 @@ collect-refusal-spec =
     returns
     stores-wrong-requires
     is-sound-requires
-    both-sound-requires
+    sound-with-requires
     lent-refusal-requires
     returns-2
     returns-3

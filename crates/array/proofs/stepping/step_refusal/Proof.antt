@@ -1,22 +1,22 @@
 -- `array::stepping::step_refusal` meets its contract: each `return` is the first row whose test holds.
 -- Assumes nothing.
-use mathlib.Core.Bool.{Bool, false, _&&_, _||_}
+use mathlib.Core.Bool.{Bool, false, not, _&&_, _||_}
 use mathlib.Core.Path.{_≡_, sym, ap, ap₂, _∙_}
 use native.Mathlib.Omega.{arith}
 use borrow.Author.Tests.{eq-eqb, ne-eqb, le-leb, lt-leb}
 use denote.Ref.{now}
 use Rattle.terms.specs.Reply.{firstRow}
-use Rattle.terms.proofs.Rows.{and-right}
 use Rattle.geometry.specs.Limits.{beyondState}
 use Rattle.geometry.specs.Store.{imageWrong, workWrong}
 use Rattle.geometry.proofs.Flags.{fails, holds}
 use Rattle.geometry.proofs.Lengths.{state-bounds}
-use Rattle.record.specs.Sound.{soundRecord}
+use Rattle.record.specs.Life.{isOpen}
+use Rattle.record.specs.Survey.{heldIn, soundWith}
 use Rattle.record.specs.declared.Look.{Look}
 use Rattle.record.proofs.Looks.{look-sound}
 use Rattle.array.specs.Lent.{tableWrong, lentRows}
 use Rattle.array.specs.Refusals.{stepRefusal, stepRows, stepReady}
-use Rattle.array.proofs.Accepted.{legal-state, sound-within, look-ready}
+use Rattle.array.proofs.Accepted.{legal-state, sound-within, look-ready, own-sound}
 use Rattle.array.proofs.LentRows.{beyond-refuses, lent-refuses, lent-passes, lent-sound}
 use borrow.Author.Needs.{needs}
 use Rattle.array.proofs.stepping.step_refusal.Statement.{statement}
@@ -36,26 +36,27 @@ inside c = sym (c .before .beyond .ensures) ∙ c .if1 .left
 lent-wrong-requires : tie.Need-lent-wrong-requires
 lent-wrong-requires c κs = legal-state (c .before .before .before .before .args .state) (inside c)
 
-both-sound-requires : tie.Need-both-sound-requires
-both-sound-requires c κs = search needs
+sound-with-requires : tie.Need-sound-with-requires
+sound-with-requires c κs = search needs
 
 lent-refusal-requires : tie.Need-lent-refusal-requires
 lent-refusal-requires c κs = inside (c .before .before)
 
 -- the look tells whether the record is sound
-sound : (c : tie.After-both-sound) → let a = c .before .before .before .before .before .before .args in c .both-sound .result ≡ (a .survey .sound && soundRecord (a .state) (a .r))
+sound : (c : tie.After-sound-with) → let a = c .before .before .before .before .before .before .args in c .sound-with .result ≡ soundWith (a .state) (a .survey) (a .r)
+unfolding soundWith
 sound c =
     let s = c .before .before .before .before .before .before in
     let a = s .args in
-    c .both-sound .ensures
-    ∙ ap (λ (b : Bool). a .survey .sound && b) (ap (λ (l : Look). l .sound) (s .pre .0) ∙ look-sound (a .state) (a .r) ∙ sound-within (a .state) (a .r) (inside (c .before .before)))
+    c .sound-with .ensures
+    ∙ ap (λ (b : Bool). a .survey .sound && b && not (isOpen (a .r) && heldIn (a .survey) (a .r .stripe))) (ap (λ (l : Look). l .sound) (s .pre .0) ∙ look-sound (a .state) (a .r) ∙ sound-within (a .state) (a .r) (inside (c .before .before)))
 
 -- rows 1 to 4; where none of them refuses the call's own are left
 lent : (c : tie.After-lent-refusal) → let a = c .before .before .before .before .before .before .before .args in
     c .lent-refusal .result
     ≡ firstRow
     (lentRows (a .state) (imageWrong (a .state) (now (a .image)) || tableWrong (a .state) (a .survey .len) || workWrong (a .state) (now (a .work)))
-    (a .survey .sound && soundRecord (a .state) (a .r)))
+    (soundWith (a .state) (a .survey) (a .r)))
 lent c =
     let a = c .before .before .before .before .before .before .before .args in
     c .lent-refusal .ensures
@@ -90,7 +91,7 @@ ready c =
     let s = c .before .before .before .before .before .before .before .before .before .before .before .before .before .before in
     let a = s .args in
     let e = c .before .before .before .before .before .before in
-    let fine = and-right (a .survey .sound) _ (lent-sound _ _ _ _ (lent (e .before)) (e .if2 .left)) in
+    let fine = own-sound (a .state) (a .survey) (a .r) (lent-sound _ _ _ _ (lent (e .before)) (e .if2 .left)) in
     c .ready-by .ensures ∙ look-ready (a .state) (a .r) (a .look) (s .pre .0) (inside (c .before .before .before .before .before .before .before .before .before .before)) fine (eq-eqb _ _ (c .before .before .if4 .left)) (a .k) _ (s .pre .1)
 
 returns-5 : tie.Need-returns-5
@@ -114,7 +115,7 @@ step-refusal-spec =
     beyond-requires
     returns
     lent-wrong-requires
-    both-sound-requires
+    sound-with-requires
     lent-refusal-requires
     returns-2
     returns-3
