@@ -1,4 +1,4 @@
--- A call that is given a survey of a lent table, or its length, and the record at i, does what the lent call does of that table.
+-- A call that is given a survey of a lent table, or of the rest of it and the record at i, or its length, does what the lent call does of that table.
 -- Assumes nothing.
 use Prim.Native.Nat.{ℕ}
 use mathlib.Core.Bool.{Bool, cond}
@@ -10,8 +10,9 @@ use Rattle.geometry.specs.declared.Geometry.{Geometry}
 use Rattle.geometry.specs.declared.State.{State}
 use Rattle.parity.specs.Scan.{Named, reply}
 use Rattle.parity.specs.declared.Scan.{Scan}
+use Rattle.record.proofs.Rest.{survey-whole}
 use Rattle.record.specs.Life.{free}
-use Rattle.record.specs.Survey.{surveyOf}
+use Rattle.record.specs.Survey.{surveyOf, surveyBut}
 use Rattle.record.specs.declared.Record.{Record}
 use Rattle.array.specs.Admission.{admissionBy, admission}
 use Rattle.array.specs.Answers.{openedReply}
@@ -33,21 +34,23 @@ module _ (l : List Record) where
   open-lent g out work image o is = record { reply = is .reply; answered = is .answer; new-state = is .state; table-left = rw (is .reply) }
 
   module _ (st : State) where
-    pub admit-lent : (work image : List ℕ) (write : Bool) (s mask : ℕ) (payload : List ℕ) (o : by-admit.Admission) (w : List ℕ) → AdmissionIs (admissionBy st (surveyOf st l) work image write s mask payload) o w
+    pub admit-lent : (work image : List ℕ) (write : Bool) (s mask : ℕ) (payload : List ℕ) (o : by-admit.Admission) (w : List ℕ) → AdmissionIs (admissionBy st (surveyBut st l 8) work image write s mask payload) o w
         → AdmissionLent (admission st l work image write s mask payload) (o .answer) (set l (o .place) (o .«record»)) w
     unfolding admission
-    admit-lent work image write s mask payload o w is = record { reply = is .reply; answered = is .answer; table-left = ap₂ (set l) (is .place) (is .stands); work-left = is .work-left }
+    admit-lent work image write s mask payload o w before =
+        let is : AdmissionIs (admissionBy st (surveyOf st l) work image write s mask payload) o w = rw (survey-whole st l) at before in
+        record { reply = is .reply; answered = is .answer; table-left = ap₂ (set l) (is .place) (is .stands); work-left = is .work-left }
 
-    pub step-lent : (work image : List ℕ) (i k : ℕ) (o : by-step.Stepping) (w m : List ℕ) → SteppingIs (steppingBy st (surveyOf st l) (getD l i free) work image i k) o w m
+    pub step-lent : (work image : List ℕ) (i k : ℕ) (o : by-step.Stepping) (w m : List ℕ) → SteppingIs (steppingBy st (surveyBut st l i) (getD l i free) work image i k) o w m
         → SteppingLent (stepping st l work image i k) (o .answer) (set l (o .place) (o .«record»)) w m
     unfolding stepping
     step-lent work image i k o w m is = record { reply = is .reply; answered = is .answer; table-left = ap₂ (set l) (is .place) (is .stands); work-left = is .work-left; image-left = is .image-left }
 
-    pub collect-lent : (work : List ℕ) (i : ℕ) (result : List ℕ) (o : by-collect.Collection) (m : List ℕ) → CollectionIs (collectionBy st (surveyOf st l) (getD l i free) work i result) o m
+    pub collect-lent : (work : List ℕ) (i : ℕ) (result : List ℕ) (o : by-collect.Collection) (m : List ℕ) → CollectionIs (collectionBy st (surveyBut st l i) (getD l i free) work i result) o m
         → CollectionLent (collection st l work i result) (o .answer) (set l (o .place) (o .«record»)) m
     unfolding collection
     collect-lent work i result o m is = record { reply = is .reply; answered = is .answer; table-left = ap₂ (set l) (is .place) (is .stands); result-left = is .result-left }
 
-    pub scan-lent : (image : List ℕ) (r : Scan) → (reply r ≡ scanReplyBy st (surveyOf st l) image) × Named r → (reply r ≡ scanReply st l image) × Named r
+    pub scan-lent : (image : List ℕ) (r : Scan) → (reply r ≡ scanReplyBy st (surveyBut st l 8) image) × Named r → (reply r ≡ scanReply st l image) × Named r
     unfolding scanReply
-    scan-lent image r is = is
+    scan-lent image r is = rw (survey-whole st l) at is

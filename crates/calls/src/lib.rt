@@ -67,7 +67,7 @@ pub fn admit(
 ) -> Admitted
     ensures { λ r. ⌜ AdmissionLent (admission state (now (table .entry)) (now (work .entry)) (now (image .entry)) write stripe mask (now (payload .entry))) r (now (table .exit)) (now (work .exit)) ⌝ }
 {
-    let survey = surveyed(table, state);
+    let survey = surveyed(table, state, 8);
     let made = array::admit_by(state, survey, work, image, write, stripe, mask, payload);
     replace(table, made.place, made.record);
     made.answer
@@ -84,7 +84,7 @@ pub fn step(
 ) -> Stepped
     ensures { λ r. ⌜ SteppingLent (stepping state (now (table .entry)) (now (work .entry)) (now (image .entry)) i k) r (now (table .exit)) (now (work .exit)) (now (image .exit)) ⌝ }
 {
-    let survey = surveyed(table, state);
+    let survey = surveyed(table, state, i);
     let r = at(table, i);
     let made = array::step_by(state, survey, r, work, image, i, k);
     replace(table, made.place, made.record);
@@ -111,7 +111,7 @@ pub fn collect(
 ) -> Collected
     ensures { λ r. ⌜ CollectionLent (collection state (now (table .entry)) (now (work .entry)) i (now (result .entry))) r (now (table .exit)) (now (result .exit)) ⌝ }
 {
-    let survey = surveyed(table, state);
+    let survey = surveyed(table, state, i);
     let r = at(table, i);
     let made = array::collect_by(state, survey, r, work, i, result);
     replace(table, made.place, made.record);
@@ -122,6 +122,6 @@ pub fn collect(
 pub fn scan(state: State, table: &[Record], image: &[u8]) -> Scan
     ensures { λ r. ⌜ (reply r ≡ scanReply state (now (table .entry)) (now (image .entry))) × Named r ⌝ }
 {
-    let survey = surveyed(table, state);
+    let survey = surveyed(table, state, 8);
     array::scan_by(state, survey, image)
 }

@@ -8,7 +8,7 @@ use mathlib.Core.Bool.{Bool, cond}
 use denote.Slice.{MutSlice, finally}
 use Rattle.geometry.specs.declared.State.{State}
 use Rattle.record.specs.Life.{free}
-use Rattle.record.specs.Survey.{surveyOf}
+use Rattle.record.specs.Survey.{surveyBut}
 use Rattle.record.specs.declared.Record.{Record}
 use Rattle.geometry.proofs.State as S
 use Rattle.record.proofs.Record as T
@@ -57,12 +57,12 @@ module _ (m : Machine) (ε : Env′) (ℓ : Lifetime) (κ : Lft) (q : Share) (x 
         answers m counting ε key (((α ∷ [], tt), (fullShare, tt), tt, (named-as δ, tt), (s ∷ [], tt)), tt) t (id⊢ (m .𝓤) _) number (length ys) (λ _ _. id⊢ (m .𝓤) _) (had nil) (os _ _) (λ _ _.
         unlend T.the-row κ q (x .ptr .0) (x .ptr .1) (x .name) ys ℓ (named 0) t tt α $ k)))
 
-    pub looks-over : K → ε (looking-over .name) ≡ looking-over .routine → (st : State) → Is S.the-row st (array-state .val st ∷ []) → ((P : SProp (m .𝓤)) (i : Item (m .𝓤)) → Opds K (given-of m) (raw P ∷ i ∷ Γ) E xs (s ∷ array-state .val st ∷ []))
-        → (Is Sv.the-row (surveyOf st ys) (survey .val (surveyOf st ys) ∷ []) → Seq K (given-of m) (‵ (flft κ q) ∷ ‵ Own ∷ Γ) (lands (calls-of m ε) (loops-of m ε) E p (survey .val (surveyOf st ys)) rest z))
+    pub looks-over : K → ε (looking-over .name) ≡ looking-over .routine → (st : State) → Is S.the-row st (array-state .val st ∷ []) → (but : ℕ) → but < 2 ^ 64 → ((P : SProp (m .𝓤)) (i : Item (m .𝓤)) → Opds K (given-of m) (raw P ∷ i ∷ Γ) E xs (s ∷ array-state .val st ∷ vint w64 but ∷ []))
+        → (Is Sv.the-row (surveyBut st ys but) (survey .val (surveyBut st ys but) ∷ []) → Seq K (given-of m) (‵ (flft κ q) ∷ ‵ Own ∷ Γ) (lands (calls-of m ε) (loops-of m ε) E p (survey .val (surveyBut st ys but)) rest z))
         → Seq K (given-of m) (‵ (flft κ q) ∷ ‵ Own ∷ Γ) (runs (calls-of m ε) (loops-of m ε) E (seq (call (looking-over .name) xs p) rest) z)
-    looks-over t key st is os k =
+    looks-over t key st is but fits os k =
         lend T.the-row κ q (x .ptr .0) (x .ptr .1) (x .name) ys ℓ (named 0) t tt (λ α δ.
-        answers m looking-over ε key (((α ∷ [], tt), (fullShare, tt), tt, (named-as δ, (st, tt)), (s ∷ [], (array-state .val st ∷ [], tt))), tt) t (id⊢ (m .𝓤) _) survey (surveyOf st ys) (λ _ _. id⊢ (m .𝓤) _) (had (made (gives m array-state st is) nil)) (os _ _) (λ _ is-survey.
+        answers m looking-over ε key (((α ∷ [], tt), (fullShare, tt), tt, (named-as δ, (st, (but, tt))), (s ∷ [], (array-state .val st ∷ [], (vint w64 but ∷ [], tt)))), tt) t (id⊢ (m .𝓤) _) survey (surveyBut st ys but) (λ _ _. id⊢ (m .𝓤) _) (had (made (gives m array-state st is) (made (gives m number but (refl, fits)) nil))) (os _ _) (λ _ is-survey.
         unlend T.the-row κ q (x .ptr .0) (x .ptr .1) (x .name) ys ℓ (named 0) t tt α $ k is-survey))
 
     pub picks : K → ε (picking .name) ≡ picking .routine → (i : ℕ) → i < 2 ^ 64 → ((P : SProp (m .𝓤)) (j : Item (m .𝓤)) → Opds K (given-of m) (raw P ∷ j ∷ Γ) E xs (s ∷ vint w64 i ∷ []))

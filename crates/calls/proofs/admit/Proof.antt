@@ -1,9 +1,9 @@
 -- `calls::admit` meets its contract: a walk of its MIR, by hand. The table is looked at, the admission by survey makes the answer and the taken record, which is put back.
 -- Assumes nothing.
-use Rattle.walk.proofs.Words.{refl, ℕ, List, [], _∷_, length, set, length-set, named, id⊢, _$_, !, move, keep, look, stop, fld, from, load, of-opd, and-then, no-more, returns, whole, sub, look-in, u8, RefT, Room}
+use Rattle.walk.proofs.Words.{lit, lit<, refl, ℕ, List, [], _∷_, length, set, length-set, named, id⊢, _$_, !, move, keep, look, stop, fld, from, load, of-opd, and-then, no-more, returns, whole, sub, look-in, u8, RefT, Room}
 use Rattle.walk.proofs.Words.{number, truth, by-value, shared, given, aside, end, full, leaves, local, sets, lands-in, reborrows, twice, lasting, Machine, Subject, Known, Entry, values, Walk, nil, had, made, gives, holds, typed, ends, proven, Callee, calls}
 use Rattle.geometry.specs.declared.State.{State}
-use Rattle.record.specs.Survey.{surveyOf}
+use Rattle.record.specs.Survey.{surveyBut}
 use Rattle.record.specs.declared.Record.{Record}
 use Rattle.record.proofs.Record as T
 use Rattle.array.proofs.admit_by as core
@@ -49,8 +49,8 @@ module _ (m : Machine) (e : Entry m it params) where
   walk l =
       reborrows ! 4 22 24 refl refl refl tt refl refl refl (tt, (tt, (record { fits = fits .0 }, tt))) $ move ! (36 ∷ 41 ∷ []) $
       -- [the table's token; what the table owns; _0; …; _17; …; the others' tokens; what state, work, image, write, stripe, mask and payload own]
-      looks-over m admit.Code.env (named 0) (e .lfts .0) (e .shares .0) t ! admit.Code.calls-table·surveyed st (e .are .0) (λ _ _. and-then ! (local ! 26 refl) (and-then ! (local ! 4 refl) (no-more !))) (λ is-survey.
-      lands-in ! 20 refl (typed m survey (surveyOf st (t .now)) is-survey .0) $
+      looks-over m admit.Code.env (named 0) (e .lfts .0) (e .shares .0) t ! admit.Code.calls-table·surveyed st (e .are .0) 8 (lit< tt) (λ _ _. and-then ! (local ! 26 refl) (and-then ! (local ! 4 refl) (and-then ! (lit ! tt) (no-more !)))) (λ is-survey.
+      lands-in ! 20 refl (typed m survey (surveyBut st (t .now) 8) is-survey .0) $
       reborrows ! 8 28 30 refl refl refl tt refl refl refl (tt, (tt, (record { fits = w-fits .0 }, tt))) $
       move ! (43 ∷ []) $ twice ! u8 (named 2) (e .lfts .1 .1 .0) image $ move ! (48 ∷ []) $ twice ! u8 (named 3) (e .lfts .1 .1 .1 .0) payload $ move ! (42 ∷ 43 ∷ 44 ∷ 46 ∷ 2 ∷ 0 ∷ []) $
       calls m by-survey admit.Code.env admit.Code.calls-array·admit-by (
@@ -58,12 +58,12 @@ module _ (m : Machine) (e : Entry m it params) where
           e .lfts .1,
           e .shares .1,
           tt,
-          (st, (surveyOf st (t .now), e .args .1 .1)),
-          (array-state .val st ∷ [], (survey .val (surveyOf st (t .now)) ∷ [], values m it params e .1 .1)),
+          (st, (surveyBut st (t .now) 8, e .args .1 .1)),
+          (array-state .val st ∷ [], (survey .val (surveyBut st (t .now) 8) ∷ [], values m it params e .1 .1)),
         ),
         tt,
       ) ! (id⊢ (m .𝓤) _) admission-data (λ _ _. id⊢ (m .𝓤) _)
-      (made (gives m array-state st (e .are .0)) (made (gives m survey (surveyOf st (t .now)) is-survey) (had (had (made (gives m truth (e .args .1 .1 .1 .1 .0) refl)
+      (made (gives m array-state st (e .are .0)) (made (gives m survey (surveyBut st (t .now) 8) is-survey) (had (had (made (gives m truth (e .args .1 .1 .1 .1 .0) refl)
       (made (gives m number (e .args .1 .1 .1 .1 .1 .0) (e .are .1 .1 .1 .1 .1 .0)) (made (gives m number (e .args .1 .1 .1 .1 .1 .1 .0) (e .are .1 .1 .1 .1 .1 .1 .0)) (had nil))))))))
       (and-then ! (local ! 7 refl) (and-then ! (local ! 23 refl) (and-then ! (local ! 33 refl) (and-then ! (local ! 13 refl) (and-then ! (local ! 15 refl) (and-then ! (local ! 17 refl) (and-then ! (local ! 19 refl) (and-then ! (local ! 21 refl) (no-more !))))))))) (λ r ws said is-out.
       lands-in ! 28 refl (typed m admission-data r is-out .0) $

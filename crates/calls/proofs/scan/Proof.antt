@@ -1,9 +1,9 @@
 -- `calls::scan` meets its contract: a walk of its MIR, by hand. The table is looked at, and the scan by survey makes the answer.
 -- Assumes nothing.
-use Rattle.walk.proofs.Words.{refl, ℕ, List, [], _∷_, named, id⊢, _$_, !, move, keep, look, and-then, no-more, returns, u8, RefT}
-use Rattle.walk.proofs.Words.{by-value, shared, aside, end, full, leaves, local, lands-in, twice, Machine, Subject, Known, Entry, values, Walk, nil, had, made, gives, holds, typed, ends, proven, Callee, calls, answers}
+use Rattle.walk.proofs.Words.{lit, lit<, refl, ℕ, List, [], _∷_, named, id⊢, _$_, !, move, keep, look, and-then, no-more, returns, u8, RefT}
+use Rattle.walk.proofs.Words.{number, by-value, shared, aside, end, full, leaves, local, lands-in, twice, Machine, Subject, Known, Entry, values, Walk, nil, had, made, gives, holds, typed, ends, proven, Callee, calls, answers}
 use Rattle.geometry.specs.declared.State.{State}
-use Rattle.record.specs.Survey.{surveyOf}
+use Rattle.record.specs.Survey.{surveyBut}
 use Rattle.record.specs.declared.Record.{Record}
 use Rattle.record.proofs.Record as T
 use Rattle.array.proofs.scan_by as core
@@ -37,12 +37,12 @@ module _ (m : Machine) (e : Entry m it params) where
   walk l =
       move ! (13 ∷ []) $ twice ! T.the-row (named 0) (e .lfts .0) t $ move ! (12 ∷ 0 ∷ []) $
       -- [the table's token; what the table owns, twice; _0; …; _4; …; the image's token; what state and image own]
-      answers m looking-over scan.Code.env scan.Code.calls-table·surveyed (((e .lfts .0, tt), (e .shares .0, tt), tt, (t, (st, tt)), (values m it params e .1 .0, (array-state .val st ∷ [], tt))), tt) ! (id⊢ (m .𝓤) _) survey (surveyOf st (t .now)) (λ _ _. id⊢ (m .𝓤) _)
-      (had (made (gives m array-state st (e .are .0)) nil)) (and-then ! (local ! 6 refl) (and-then ! (local ! 4 refl) (no-more !))) (λ _ is-survey.
-      lands-in ! 10 refl (typed m survey (surveyOf st (t .now)) is-survey .0) $
+      answers m looking-over scan.Code.env scan.Code.calls-table·surveyed (((e .lfts .0, tt), (e .shares .0, tt), tt, (t, (st, (8, tt))), (values m it params e .1 .0, (array-state .val st ∷ [], (number .val 8 ∷ [], tt)))), tt) ! (id⊢ (m .𝓤) _) survey (surveyBut st (t .now) 8) (λ _ _. id⊢ (m .𝓤) _)
+      (had (made (gives m array-state st (e .are .0)) (made (gives m number 8 (refl, lit< tt)) nil))) (and-then ! (local ! 6 refl) (and-then ! (local ! 4 refl) (and-then ! (lit ! tt) (no-more !)))) (λ _ is-survey.
+      lands-in ! 10 refl (typed m survey (surveyBut st (t .now) 8) is-survey .0) $
       move ! (14 ∷ []) $ twice ! u8 (named 1) (e .lfts .1 .0) image $ move ! (14 ∷ 0 ∷ []) $
-      calls m by-survey scan.Code.env scan.Code.calls-array·scan-by ((e .lfts .1, e .shares .1, tt, (st, (surveyOf st (t .now), e .args .1 .1)), (array-state .val st ∷ [], (survey .val (surveyOf st (t .now)) ∷ [], values m it params e .1 .1))), tt) ! (id⊢ (m .𝓤) _) scan-data (λ _ _. id⊢ (m .𝓤) _)
-      (made (gives m array-state st (e .are .0)) (made (gives m survey (surveyOf st (t .now)) is-survey) (had nil)))
+      calls m by-survey scan.Code.env scan.Code.calls-array·scan-by ((e .lfts .1, e .shares .1, tt, (st, (surveyBut st (t .now) 8, e .args .1 .1)), (array-state .val st ∷ [], (survey .val (surveyBut st (t .now) 8) ∷ [], values m it params e .1 .1))), tt) ! (id⊢ (m .𝓤) _) scan-data (λ _ _. id⊢ (m .𝓤) _)
+      (made (gives m array-state st (e .are .0)) (made (gives m survey (surveyBut st (t .now) 8) is-survey) (had nil)))
       (and-then ! (local ! 6 refl) (and-then ! (local ! 12 refl) (and-then ! (local ! 10 refl) (no-more !)))) (λ r _ said is-out.
       lands-in ! 4 refl (typed m scan-data r is-out .0) $
       -- [the image's token; image; the table's token; what the table owns; _0; …; _4; …; what state owns]

@@ -1,10 +1,10 @@
--- `calls::step` meets its contract: a walk of its MIR, by hand. The table is looked at and the record at i read out, the step by survey makes the answer and the changed record, which is put back.
+-- `calls::step` meets its contract: a walk of its MIR, by hand. The rest of the table is looked at and the record at i read out, the step by survey makes the answer and the changed record, which is put back.
 -- Assumes nothing.
 use Rattle.walk.proofs.Words.{refl, ℕ, List, [], _∷_, length, getD, set, length-set, named, id⊢, _$_, !, move, keep, look, stop, fld, from, load, of-opd, and-then, no-more, returns, whole, sub, look-in, u8, RefT, Room}
 use Rattle.walk.proofs.Words.{number, by-value, given, aside, end, full, leaves, local, sets, lands-in, reborrows, lasting, Machine, Subject, Known, Entry, values, Walk, nil, had, made, gives, holds, typed, ends, proven, Callee, calls}
 use Rattle.geometry.specs.declared.State.{State}
 use Rattle.record.specs.Life.{free}
-use Rattle.record.specs.Survey.{surveyOf}
+use Rattle.record.specs.Survey.{surveyBut}
 use Rattle.record.specs.declared.Record.{Record}
 use Rattle.record.proofs.Record as T
 use Rattle.array.proofs.step_by as core
@@ -60,8 +60,8 @@ module _ (m : Machine) (e : Entry m it params) where
   walk l =
       reborrows ! 4 20 22 refl refl refl tt refl refl refl (tt, (tt, (record { fits = fits .0 }, tt))) $ move ! (42 ∷ 46 ∷ []) $
       -- [the table's token; what the table owns; _0; …; _20; …; the others' tokens; what state, work, image, i and k own]
-      looks-over m step.Code.env (named 0) (e .lfts .0) (e .shares .0) t ! step.Code.calls-table·surveyed st (e .are .0) (λ _ _. and-then ! (local ! 24 refl) (and-then ! (local ! 4 refl) (no-more !))) (λ is-survey.
-      lands-in ! 16 refl (typed m survey (surveyOf st (t .now)) is-survey .0) $
+      looks-over m step.Code.env (named 0) (e .lfts .0) (e .shares .0) t ! step.Code.calls-table·surveyed st (e .are .0) i (e .are .1 .1 .1 .1 .0 .1) (λ _ _. and-then ! (local ! 24 refl) (and-then ! (local ! 4 refl) (and-then ! (local ! 12 refl) (no-more !)))) (λ is-survey.
+      lands-in ! 16 refl (typed m survey (surveyBut st (t .now) i) is-survey .0) $
       reborrows ! 6 26 28 refl refl refl tt refl refl refl (tt, (tt, (record { fits = fits .0 }, tt))) $
       picks m step.Code.env (named 0) (e .lfts .0) (e .shares .0) t ! step.Code.calls-table·at i (e .are .1 .1 .1 .1 .0 .1) (λ _ _. and-then ! (local ! 28 refl) (and-then ! (local ! 12 refl) (no-more !))) (λ is-old.
       lands-in ! 18 refl (typed m request old is-old .0) $
@@ -72,12 +72,12 @@ module _ (m : Machine) (e : Entry m it params) where
           e .lfts .1,
           e .shares .1,
           tt,
-          (st, (surveyOf st (t .now), (old, e .args .1 .1))),
-          (array-state .val st ∷ [], (survey .val (surveyOf st (t .now)) ∷ [], (request .val old ∷ [], values m it params e .1 .1))),
+          (st, (surveyBut st (t .now) i, (old, e .args .1 .1))),
+          (array-state .val st ∷ [], (survey .val (surveyBut st (t .now) i) ∷ [], (request .val old ∷ [], values m it params e .1 .1))),
         ),
         tt,
       ) ! (id⊢ (m .𝓤) _) stepping-data (λ _ _. id⊢ (m .𝓤) _)
-      (made (gives m array-state st (e .are .0)) (made (gives m survey (surveyOf st (t .now)) is-survey) (made (gives m request old is-old)
+      (made (gives m array-state st (e .are .0)) (made (gives m survey (surveyBut st (t .now) i) is-survey) (made (gives m request old is-old)
       (had (had (made (gives m number i (e .are .1 .1 .1 .1 .0)) (made (gives m number k (e .are .1 .1 .1 .1 .1 .0)) nil)))))))
       (and-then ! (local ! 5 refl) (and-then ! (local ! 17 refl) (and-then ! (local ! 19 refl) (and-then ! (local ! 33 refl) (and-then ! (local ! 37 refl) (and-then ! (local ! 13 refl) (and-then ! (local ! 15 refl) (no-more !)))))))) (λ r ws said is-out.
       lands-in ! 24 refl (typed m stepping-data r is-out .0) $

@@ -5,16 +5,23 @@ use Rattle.walk.proofs.Words.{again, look, store, forget, stop, from, lit, of-o
 use Rattle.walk.proofs.Words.{number, by-value, shared, Machine, Subject, Known, Entry, Walk, A-of, turns, nil, had, made, gives, holds, typed, resumes, Turn, ends, proven, Callee, answers}
 use native.Mathlib.Nat.{le-antisymm}
 use prog.Wp.{afterTurn}
+use denote.Builtin.{u64}
 use denote.Slice.{ShrSlice}
+use lib.Dec.{eqb}
+use lib.ListN.{set, length-set}
+use mathlib.Core.Bool.{cond}
+use mathlib.Core.Path.{sym}
 use Rattle.geometry.specs.declared.State.{State}
 use Rattle.record.specs.Life.{free}
 use Rattle.record.specs.Seen.{toSee, started, seen, seenTo}
+use Rattle.record.specs.Survey.{surveyBut}
 use Rattle.record.specs.declared.Record.{Record}
 use Rattle.record.specs.declared.Survey.{Survey}
 use Rattle.geometry.proofs.State as S
 use Rattle.record.proofs.Record as T
 use Rattle.record.proofs.Survey as Sv
-use Rattle.record.proofs.Surveyed.{survey-is, seen-next}
+use Rattle.record.proofs.Rest.{seen-rest}
+use Rattle.record.proofs.Surveyed.{survey-is}
 use Rattle.table.proofs.Records.{request, array-state, survey}
 use Rattle.table.proofs.count
 use Rattle.table.proofs.at
@@ -97,6 +104,10 @@ module _ (m : Machine) (e : Entry m it params) where
   abbrev fits : Room T.the-row n
   fits = e .are .0 .0 .1
 
+  -- all are looked at, or none
+  past-seen : seenTo st rest top ≡ surveyBut st (x .now) but
+  past-seen = ap (seenTo st rest) (ap (toSee st) (sym (length-set (x .now) but free))) ∙ survey-is st rest
+
   -- what the slice owns
   abbrev Table : Item (m .𝓤)
   Table = ‵ (ShrSlice (named 0) (e .lfts .0) T.the-row .own x (s ∷ []))
@@ -104,14 +115,14 @@ module _ (m : Machine) (e : Entry m it params) where
   module _ (l : Spots (surveyed.Code.function .locals)) where
     -- the local that holds this survey
     abbrev Held : Survey → Item (m .𝓤)
-    Held u = ‵ (fat fullShare Sv.Laws.mir (l .1 .1 .1 .1 .1 .0) 0 (survey .val u))
+    Held u = ‵ (fat fullShare Sv.Laws.mir (l .1 .1 .1 .1 .1 .1 .0) 0 (survey .val u))
 
     -- the loop's variable, and what there is before a turn
     abbrev Place : Type 0
     Place = (i : ℕ) × (i ≤ top) × Is Sv.the-row (v i) (survey .val (v i) ∷ [])
 
     abbrev Before : Place → List (Item (m .𝓤))
-    Before t = ‵ (flft (e .lfts .0) (e .shares .0)) ∷ Table ∷ (holding (m .H) (A-of m) (surveyed.Code.function .locals) l (none ∷ some s ∷ some (array-state .val st) ∷ some (number .val n) ∷ some (number .val top) ∷ some (survey .val (v (t .0))) ∷ some (number .val (t .0)) ∷ none ∷ none ∷ []) ++ (‵ (S.the-row .own st (array-state .val st ∷ [])) ∷ []))
+    Before t = ‵ (flft (e .lfts .0) (e .shares .0)) ∷ Table ∷ (holding (m .H) (A-of m) (surveyed.Code.function .locals) l (none ∷ some s ∷ some (array-state .val st) ∷ some (number .val but) ∷ some (number .val n) ∷ some (number .val top) ∷ some (survey .val (v (t .0))) ∷ some (number .val (t .0)) ∷ none ∷ none ∷ []) ++ (‵ (S.the-row .own st (array-state .val st ∷ [])) ∷ ‵ (u64 .own but (number .val but ∷ [])) ∷ []))
 
     abbrev left : Place → ℕ
     left t = top - t .0
@@ -119,38 +130,38 @@ module _ (m : Machine) (e : Entry m it params) where
     turn : top < 2 ^ 64 → (t : Place) → Turn m it params e surveyed.Code.env surveyed.Code.function l surveyed.Code.Mir.turn-1 surveyed.Code.Mir.t-6 left Before t
     unfolding afterTurn
     turn top-fits t =
-        sets ! (bin ! (local ! 14 refl) (local ! 10 refl) tt) 18 refl (tt, tt) $
-        tests ! (local ! 18 refl) (λ below.
+        sets ! (bin ! (local ! 16 refl) (local ! 12 refl) tt) 20 refl (tt, tt) $
+        tests ! (local ! 20 refl) (λ below.
         move ! (1 ∷ []) $ twice ! T.the-row (named 0) (e .lfts .0) x $ move ! (2 ∷ 0 ∷ []) $
         answers m picking surveyed.Code.env surveyed.Code.calls-table·at (((e .lfts .0, tt), (e .shares .0, tt), tt, (x, (t .0, tt)), (s ∷ [], (number .val (t .0) ∷ [], tt))), tt) ! (id⊢ (m .𝓤) _) request (r (t .0)) (λ _ _. id⊢ (m .𝓤) _)
-        (had (made (gives m number (t .0) (refl, fits-64 (t .0) top (ltb→lt (t .0) top below) top-fits)) nil)) (and-then ! (local ! 4 refl) (and-then ! (local ! 14 refl) (no-more !))) (λ _ is-r.
-        lands-in ! 16 refl (typed m request (r (t .0)) is-r .0) $
-        -- [the token; what table owns; _0; …; _8; …; what state owns]
+        (had (made (gives m number (t .0) (refl, fits-64 (t .0) top (ltb→lt (t .0) top below) top-fits)) nil)) (and-then ! (local ! 4 refl) (and-then ! (local ! 16 refl) (no-more !))) (λ _ is-r.
+        lands-in ! 18 refl (typed m request (r (t .0)) is-r .0) $
+        -- [the token; what table owns; _0; …; _9; …; what state owns]
         answers m seeing surveyed.Code.env surveyed.Code.calls-record·Survey·seen-but ((tt, tt, tt, (v (t .0), (st, (t .0, (r (t .0), (but, tt))))), (survey .val (v (t .0)) ∷ [], (array-state .val st ∷ [], (number .val (t .0) ∷ [], (request .val (r (t .0)) ∷ [], (number .val but ∷ [], tt)))))), tt) ! (id⊢ (m .𝓤) _) survey (seen st (v (t .0)) (t .0) (picked (t .0))) (λ _ _. id⊢ (m .𝓤) _)
         (made (gives m survey (v (t .0)) (t .2)) (made (gives m array-state st (e .are .1 .0)) (made (gives m number (t .0) (refl, fits-64 (t .0) top (ltb→lt (t .0) top below) top-fits)) (made (gives m request (r (t .0)) is-r) (made (gives m number but (e .are .1 .1 .0)) nil)))))
-        (and-then ! (local ! 13 refl) (and-then ! (local ! 7 refl) (and-then ! (local ! 15 refl) (and-then ! (local ! 17 refl) (no-more !))))) (λ _ is-v.
-        lands-over ! 12 refl (typed m survey (seen st (v (t .0)) (t .0) (picked (t .0))) is-v .0) $
-        assigns-last ! (bin ! (local ! 14 refl) (lit ! tt) (record { fits = next-fits (t .0) top (ltb→lt (t .0) top below) top-fits })) (from ! (stop !)) (store ! 14 refl (tt, record { fits = next-fits (t .0) top (ltb→lt (t .0) top below) top-fits })) $
-        forget ! 16 refl $ forget ! 18 refl $ rewrite ! 12 Held (seen-rest st (x .now) but (t .0)) refl $
+        (and-then ! (local ! 15 refl) (and-then ! (local ! 7 refl) (and-then ! (local ! 17 refl) (and-then ! (local ! 19 refl) (and-then ! (local ! 9 refl) (no-more !)))))) (λ _ is-v.
+        lands-over ! 14 refl (typed m survey (seen st (v (t .0)) (t .0) (picked (t .0))) is-v .0) $
+        assigns-last ! (bin ! (local ! 16 refl) (lit ! tt) (record { fits = next-fits (t .0) top (ltb→lt (t .0) top below) top-fits })) (from ! (stop !)) (store ! 16 refl (tt, record { fits = next-fits (t .0) top (ltb→lt (t .0) top below) top-fits })) $
+        forget ! 18 refl $ forget ! 20 refl $ rewrite ! 14 Held (seen-rest st (x .now) but (t .0)) refl $
         again ! (λ (y x : Place). left y < left x) Before t (t .0 + 1, next-within (t .0) top (ltb→lt (t .0) top below), subst (λ (u : Survey). Is Sv.the-row u (survey .val u ∷ [])) (seen-rest st (x .now) but (t .0)) is-v) (less (t .0) top (ltb→lt (t .0) top below)))))
         (λ past. resumes m it params e ! surveyed.Code.env surveyed.Code.function l surveyed.Code.Mir.t-6 $
-        sets ! (of-opd ! (local ! 12 refl)) 2 refl (typed m survey (v (t .0)) (t .2) .0) $
-        returns ! (look ! 2 refl) $ aside ! 2 $ leaves ! (full (full (full (full (full (full (full (room (full end))))))))) $ aside ! 1 $
-        ends m it params e survey (v (t .0)) (t .2) (tt, (tt, tt)) (tt, (tt, tt)) (holds m (ap v (le-antisymm (t .1) (nltb→le (t .0) top past)) ∙ past-seen)) (had (had nil)))
+        sets ! (of-opd ! (local ! 14 refl)) 2 refl (typed m survey (v (t .0)) (t .2) .0) $
+        returns ! (look ! 2 refl) $ aside ! 2 $ leaves ! (full (full (full (full (full (full (full (full (room (full end)))))))))) $ aside ! 2 $
+        ends m it params e survey (v (t .0)) (t .2) (tt, (tt, (tt, tt))) (tt, (tt, (tt, tt))) (holds m (ap v (le-antisymm (t .1) (nltb→le (t .0) top past)) ∙ past-seen)) (had (had (had nil))))
 
   walk : Walk m it params e surveyed.Code.env surveyed.Code.function
   walk l =
-      move ! (18 ∷ 19 ∷ []) $ move ! (1 ∷ []) $ twice ! T.the-row (named 0) (e .lfts .0) x $ move ! (2 ∷ 0 ∷ []) $
-      -- [the token; what table owns, twice; _0; …; _8; …; what state owns]
+      move ! (20 ∷ 21 ∷ []) $ move ! (1 ∷ []) $ twice ! T.the-row (named 0) (e .lfts .0) x $ move ! (2 ∷ 0 ∷ []) $
+      -- [the token; what table owns, twice; _0; …; _9; …; what state owns]
       answers m counting surveyed.Code.env surveyed.Code.calls-table·count (((e .lfts .0, tt), (e .shares .0, tt), tt, (x, tt), (s ∷ [], tt)), tt) ! (id⊢ (m .𝓤) _) number n (λ _ _. id⊢ (m .𝓤) _) (had nil) (and-then ! (local ! 4 refl) (no-more !)) (λ _ is-n.
-      lands-in ! 8 refl (tt, record { fits = fits .0 }) $
+      lands-in ! 10 refl (tt, record { fits = fits .0 }) $
       answers m limiting surveyed.Code.env surveyed.Code.calls-record·Survey·to-see ((tt, tt, tt, (st, (n, tt)), (array-state .val st ∷ [], (number .val n ∷ [], tt))), tt) ! (id⊢ (m .𝓤) _) number top (λ _ _. id⊢ (m .𝓤) _)
-      (made (gives m array-state st (e .are .1 .0)) (made (gives m number n is-n) nil)) (and-then ! (local ! 7 refl) (and-then ! (local ! 9 refl) (no-more !))) (λ _ is-top.
-      lands-in ! 10 refl (tt, record { fits = is-top .1 }) $
+      (made (gives m array-state st (e .are .1 .0)) (made (gives m number n is-n) nil)) (and-then ! (local ! 7 refl) (and-then ! (local ! 11 refl) (no-more !))) (λ _ is-top.
+      lands-in ! 12 refl (tt, record { fits = is-top .1 }) $
       answers m starting surveyed.Code.env surveyed.Code.calls-record·Survey·started ((tt, tt, tt, (st, (n, tt)), (array-state .val st ∷ [], (number .val n ∷ [], tt))), tt) ! (id⊢ (m .𝓤) _) survey (started st n) (λ _ _. id⊢ (m .𝓤) _)
-      (made (gives m array-state st (e .are .1 .0)) (made (gives m number n is-n) nil)) (and-then ! (local ! 7 refl) (and-then ! (local ! 9 refl) (no-more !))) (λ _ is-v.
-      lands-in ! 12 refl (typed m survey (started st n) is-v .0) $ rewrite ! 12 (Held l) (none-seen st (x .now) but) refl $
-      sets ! (of-opd ! (lit ! tt)) 14 refl (tt, record { fits = lit< tt }) $ first ! $ blocks ! $
+      (made (gives m array-state st (e .are .1 .0)) (made (gives m number n is-n) nil)) (and-then ! (local ! 7 refl) (and-then ! (local ! 11 refl) (no-more !))) (λ _ is-v.
+      lands-in ! 14 refl (typed m survey (started st n) is-v .0) $ rewrite ! 14 (Held l) (none-seen st (x .now) but) refl $
+      sets ! (of-opd ! (lit ! tt)) 16 refl (tt, record { fits = lit< tt }) $ first ! $ blocks ! $
       turns m surveyed.Code.env ! (left l) (Before l) (turn l (is-top .1)) (zero, omega arith, subst (λ (u : Survey). Is Sv.the-row u (survey .val u ∷ [])) (none-seen st (x .now) but) is-v))))
 
 pub surveyed-spec : {M : Type 1} → surveyed.Statement.statement M
