@@ -26,13 +26,14 @@ use Rattle.parity.specs.Scan.{idleScanReply, nothingHeld}
 use Rattle.parity.proofs.Small.{Small, firstRow-le, disagreement-small, scan-small, idle-small}
 use Rattle.record.specs.Life.{free, isFinished, isWrite, unitsOf, missingIn, afresh}
 use Rattle.record.specs.Sound.{soundRecord, legalRecord, legalChosen, rightGraph, rightSteps, rightCount, lacksNone}
-use Rattle.record.specs.Survey.{surveyOf, heldIn}
+use Rattle.record.specs.Survey.{surveyOf, surveyBut, heldIn, soundWith}
 use Rattle.record.specs.declared.Record.{Record}
 use Rattle.record.specs.declared.Survey.{Survey}
 use Rattle.array.specs.Admission.{admissionBy, admission}
 use Rattle.array.specs.Collection.{collectionBy, collection}
 use Rattle.array.specs.Lent.{tableWrong, lentRows}
 use Rattle.array.specs.Opening.{openingBy, opening}
+use Rattle.array.proofs.Accepted.{own-sound}
 use Rattle.array.specs.Refusals.{openRefusal, admitRows, admitRefusal, stepRows, stepRefusal, collectRows, collectRefusal, scanRows, scanRefusal}
 use Rattle.array.specs.Scan.{scanReplyBy, scanReply}
 use Rattle.array.specs.Stepping.{SteppingBy, steppingBy, stepping, accepting, meetsOut}
@@ -119,10 +120,10 @@ unfolding stepping steppingBy accepting afresh
 step-room st table work image i k =
     let r = getD table i free in
     roomy _
-    (step-cases (eqb (stepRefusal st (surveyOf st table) r work image i k) 0) (meetsOut (missingIn st (r .stripe)) (stepOf (unitsOf st) k)) _ _ _
+    (step-cases (eqb (stepRefusal st (surveyBut st table i) r work image i k) 0) (meetsOut (missingIn st (r .stripe)) (stepOf (unitsOf st) k)) _ _ _
     (record { number = omega arith; first = omega (arith, choose-le (unitsOf st) (isWrite r) (r .mask) (missingIn st (r .stripe))); second = omega arith })
     (record { number = omega arith; first = omega arith; second = omega arith })
-    (record { number = step-number st (surveyOf st table) r work image i k; first = omega arith; second = omega arith }))
+    (record { number = step-number st (surveyBut st table i) r work image i k; first = omega arith; second = omega arith }))
 
 -- the record that an accepted collect takes is sound, and counts at most 2n+3
 module _ (st : State) (v : Survey) (r : Record) (work : List ℕ) (i : ℕ) (result : List ℕ) where
@@ -134,9 +135,9 @@ module _ (st : State) (v : Survey) (r : Record) (work : List ℕ) (i : ℕ) (res
   unfolding collectRefusal giving every lentRows collectRows Failed
   collected-count z =
       let failed = zero-failed _ refl z in
-      let a = passed-rows st _ _ (failed-first (lentRows st (tableWrong st (v .len) || workWrong st work) (v .sound && soundRecord st r)) (collectRows st r i result) failed) in
-      let own = failed-second (lentRows st (tableWrong st (v .len) || workWrong st work) (v .sound && soundRecord st r)) (collectRows st r i result) failed in
-      let count = finished-count st r (and-right (v .sound) (soundRecord st r) (a .is-fine)) (not-false _ (own .1 .0)) in
+      let a = passed-rows st _ _ (failed-first (lentRows st (tableWrong st (v .len) || workWrong st work) (soundWith st v r)) (collectRows st r i result) failed) in
+      let own = failed-second (lentRows st (tableWrong st (v .len) || workWrong st work) (soundWith st v r)) (collectRows st r i result) failed in
+      let count = finished-count st r (own-sound st v r (a .is-fine)) (not-false _ (own .1 .0)) in
       omega (arith, count, state-bounds st (a .limits))
 
 pub collect-room : (st : State) (table : List Record) (work : List ℕ) (i : ℕ) (result : List ℕ) → Roomy (collection st table work i result .reply)
@@ -144,5 +145,5 @@ unfolding collection collectionBy
 collect-room st table work i result =
     let r = getD table i free in
     roomy _
-    (one-small (collectRefusal st (surveyOf st table) r work i result) _ (collect-number st (surveyOf st table) r work i result)
-    (λ z. omega (arith, collected-count st (surveyOf st table) r work i result z)))
+    (one-small (collectRefusal st (surveyBut st table i) r work i result) _ (collect-number st (surveyBut st table i) r work i result)
+    (λ z. omega (arith, collected-count st (surveyBut st table i) r work i result z)))
