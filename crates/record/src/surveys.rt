@@ -100,14 +100,18 @@ impl Survey {
     }
 
     // The survey after a free record at i.
-    fn seen_free(mut self, state: State, i: u64, r: Record) -> Survey
+    fn seen_free(self, state: State, i: u64, r: Record) -> Survey
         ensures { λ v. ⌜ v ≡ record { len = self .len; sound = self .sound && (fewIn state && allZero r); held = self .held; free = cond (eqb (self .free) (self .len)) i (self .free) } ⌝ }
     {
         let sound = both(self.sound, r.free_sound(state));
         let free = self.first_free(i);
-        self.sound = sound;
-        self.free = free;
-        self
+        let held = self.held;
+        Survey {
+            len: self.len,
+            sound,
+            held,
+            free,
+        }
     }
 
     // What was right so far, where no record before i holds the stripe.
@@ -122,22 +126,34 @@ impl Survey {
     }
 
     // The survey after an open record at i on the stripe, with all right so far.
-    fn seen_open(mut self, right: bool, stripe: u64, i: usize) -> Survey
+    fn seen_open(self, right: bool, stripe: u64, i: usize) -> Survey
         requires { ⌜ i < 8 ⌝ }
         ensures { λ v. ⌜ v ≡ record { len = self .len; sound = right && not (heldBefore self stripe i); held = set (self .held) i stripe; free = self .free } ⌝ }
     {
         let sound = self.alone(right, stripe, i);
-        self.held[i] = stripe;
-        self.sound = sound;
-        self
+        let mut held = self.held;
+        held[i] = stripe;
+        Survey {
+            len: self.len,
+            sound,
+            held,
+            free: self.free,
+        }
     }
 
-    // The survey after record r at i; as it was where there is no such place.
-    pub fn seen(mut self, state: State, i: u64, r: Record) -> Survey
+    // The survey after record r at i; as it was where there is no such place. It is made anew each time: a copy of the whole would also carry
+    // the bytes between its fields from turn to turn of a loop.
+    pub fn seen(self, state: State, i: u64, r: Record) -> Survey
         ensures { λ v. ⌜ v ≡ seen state self i r ⌝ }
     {
+        let held = self.held;
         if i > 7 {
-            return self;
+            return Survey {
+                len: self.len,
+                sound: self.sound,
+                held,
+                free: self.free,
+            };
         }
         if r.phase == 0 {
             return self.seen_free(state, i, r);
@@ -146,8 +162,12 @@ impl Survey {
         if r.phase == 1 {
             return self.seen_open(right, r.stripe, i as usize);
         }
-        self.sound = right;
-        self
+        Survey {
+            len: self.len,
+            sound: right,
+            held,
+            free: self.free,
+        }
     }
 
     // The survey after record r at i, which is left out where i is this place.

@@ -15,7 +15,7 @@ use Rattle.record.proofs.Survey.seen.Tie as tie
 
 returns : tie.Need-returns
 unfolding seen
-returns c = rw (le-ltb (c .before .args .i) 8 (c .if1 .taken))
+returns c = rw (le-ltb (c .before .before .args .i) 8 (c .if1 .taken))
 
 seen-free-requires : tie.Need-seen-free-requires
 seen-free-requires c κs = search needs
@@ -35,7 +35,7 @@ returns-2 : tie.Need-returns-2
 unfolding seen stillSound stillFree soundRecordIn soundRecord
 returns-2 c =
     let t = c .before in
-    let a = t .before .before .before .args in
+    let a = t .before .before .before .before .args in
     let z : isFree (a .r) ≡ true = eq-eqb (a .r .phase) 0 (t .if2 .taken) in
     let o : isOpen (a .r) ≡ false = ne-eqb (a .r .phase) 1 (search needs) in
     rw (lt-ltb (a .i) 8 (search needs))
@@ -57,7 +57,7 @@ unfolding seen stillSound stillFree
 returns-3 c =
     let t = c .before in
     let s = t .before .before in
-    let a = s .before .before .before .before .args in
+    let a = s .before .before .before .before .before .args in
     let o : isOpen (a .r) ≡ true = eq-eqb (a .r .phase) 1 (t .if3 .taken) in
     let f : isFree (a .r) ≡ false = open-not-free (a .r) o in
     rw (lt-ltb (a .i) 8 (search needs))
@@ -74,7 +74,7 @@ unfolding seen stillSound stillFree
 returns-4 c =
     let s = c .before .before in
     let e = s .before .before in
-    let a = e .before .before .args in
+    let a = e .before .before .before .args in
     let o : isOpen (a .r) ≡ false = ne-eqb (a .r .phase) 1 (c .if3 .left) in
     let f : isFree (a .r) ≡ false = ne-eqb (a .r .phase) 0 (search needs) in
     rw (lt-ltb (a .i) 8 (search needs))

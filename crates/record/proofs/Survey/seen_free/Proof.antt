@@ -18,12 +18,13 @@ first-free-requires c κs = search needs
 
 returns : tie.Need-returns
 returns c =
-    let b = c .before in
+    let f = c .before in
+    let b = f .before in
     let a = b .before .before .args in
     same-survey _ _ refl
     (b .both .ensures ∙ ap (λ (t : Bool). a .self .sound && t) (b .before .free-sound .ensures))
     refl
-    (c .first-free .ensures)
+    (f .first-free .ensures)
 
 pub seen-free-spec : {M : Type 1} → statement M
 seen-free-spec = tie.close (tie.spec free-sound-requires both-requires first-free-requires returns)
