@@ -1,7 +1,7 @@
 -- Laws of collection over a table: its number, what an accepted one has passed and leaves, when one is accepted, and that a refused one changes nothing.
 -- Assumes nothing.
 use Prim.Native.Nat.{ℕ, _<_}
-use mathlib.Core.Bool.{Bool, true, false, cond, not, _&&_, _||_}
+use mathlib.Core.Bool.{Bool, true, false, cond, not, _||_}
 use mathlib.Core.List.{List, _++_}
 use mathlib.Core.Path.{_≡_, refl, ap}
 use borrow.Author.Tests.{eq-eqb, ne-eqb, leb-false, lt-leb, not-false}
@@ -12,9 +12,7 @@ use Rattle.terms.proofs.Lists.{set-end}
 use Rattle.terms.proofs.Refusals.{Failed, giving, zero-failed, failed-zero, failed-both, failed-second}
 use Rattle.geometry.specs.Store.{workWrong}
 use Rattle.geometry.specs.declared.State.{State}
-use Rattle.record.proofs.Surveyed.{survey-len}
 use Rattle.record.specs.Life.{free, isFinished, isWrite}
-use Rattle.record.specs.Sound.{soundRecord}
 use Rattle.record.specs.Survey.{surveyBut, soundWith}
 use Rattle.record.specs.declared.Record.{Record}
 use Rattle.array.specs.Collection.{handOver, collectionBy, collection}

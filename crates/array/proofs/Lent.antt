@@ -2,7 +2,7 @@
 -- stands in it.
 -- Assumes nothing.
 use Prim.Native.Nat.{ℕ, _<_}
-use mathlib.Core.Bool.{Bool, true, false, not, _&&_, _||_}
+use mathlib.Core.Bool.{Bool, true, false, not, _||_}
 use mathlib.Core.List.{List, _++_}
 use mathlib.Core.Logic.{_⊎_, inl, inr, ⊎-elim}
 use mathlib.Core.Path.{_≡_, sym, ap, _∙_}
@@ -12,7 +12,7 @@ use lib.Dec.{ltb}
 use lib.ListN.{length, getD, set, length-set}
 use Rattle.terms.specs.Reply.{Row, firstRow}
 use Rattle.terms.proofs.Refusals.{Failed, giving, given, firstRow-behind}
-use Rattle.terms.proofs.Rows.{or-false-left, or-false-right, and-both}
+use Rattle.terms.proofs.Rows.{or-false-left, or-false-right}
 use Rattle.geometry.proofs.Lengths.{state-bounds, image-length, work-length}
 use Rattle.geometry.specs.Limits.{beyondState}
 use Rattle.geometry.specs.Store.{imageWrong, workWrong, imageSize, workSize}
@@ -20,7 +20,7 @@ use Rattle.geometry.specs.declared.State.{State}
 use Rattle.record.proofs.Rest.{sound-rest}
 use Rattle.record.proofs.Surveyed.{looks-within, survey-len, survey-sound, survey-free, survey-held}
 use Rattle.record.specs.Life.{free}
-use Rattle.record.specs.Sound.{sound, soundRecord, held, lowestFree}
+use Rattle.record.specs.Sound.{sound, held, lowestFree}
 use Rattle.record.specs.Survey.{looksAt, surveyOf, surveyBut, heldIn, soundWith}
 use Rattle.record.specs.declared.Record.{Record}
 use Rattle.array.specs.Lent.{tableWrong, lentRows}

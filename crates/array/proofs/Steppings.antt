@@ -1,7 +1,7 @@
 -- Laws of a step over a table: its number, what an accepted one has passed and leaves, when one is accepted, and that a refused one changes nothing.
 -- Assumes nothing.
 use Prim.Native.Nat.{ℕ, _<_}
-use mathlib.Core.Bool.{Bool, true, false, cond, not, _&&_, _||_}
+use mathlib.Core.Bool.{Bool, true, false, cond, not, _||_}
 use mathlib.Core.List.{List, _++_}
 use mathlib.Core.Path.{_≡_, refl, sym, ap, _∙_}
 use borrow.Author.Tests.{eqb-true, eq-eqb, ne-eqb, leb-false, lt-leb, not-false}
@@ -11,13 +11,10 @@ use Rattle.terms.specs.Lists.{every}
 use Rattle.terms.specs.Reply.{refused}
 use Rattle.terms.proofs.Lists.{set-end}
 use Rattle.terms.proofs.Refusals.{Failed, giving, zero-failed, failed-zero, failed-both, failed-first, failed-second}
-use Rattle.terms.proofs.Rows.{and-left}
 use Rattle.geometry.specs.Store.{imageWrong, workWrong}
 use Rattle.geometry.specs.declared.State.{State}
 use Rattle.graph.specs.Steps.{stepOf}
-use Rattle.record.proofs.Surveyed.{survey-len}
 use Rattle.record.specs.Life.{free, isOpen, missingIn, unitsOf}
-use Rattle.record.specs.Sound.{soundRecord}
 use Rattle.record.specs.Survey.{surveyBut, soundWith}
 use Rattle.record.specs.declared.Record.{Record}
 use Rattle.array.specs.Lent.{tableWrong, lentRows}

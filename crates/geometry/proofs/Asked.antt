@@ -9,10 +9,10 @@ use lib.ListN.{length}
 use borrow.Author.Tests.{ltb-true, lt-ltb}
 use Rattle.terms.specs.Lists.{part}
 use Rattle.terms.proofs.Rows.{and-left, and-right, and-both}
-use Rattle.geometry.specs.Asked.{imageSizeIn, workSizeIn, cellIn, writeIn, readIn, cellPart}
-use Rattle.geometry.specs.Store.{imageSize, workSize, cellAt, writeAt, readAt, imageWrong, legalState, inImage, inWork}
+use Rattle.geometry.specs.Asked.{imageSizeIn, cellIn, cellPart}
+use Rattle.geometry.specs.Store.{imageSize, cellAt, imageWrong, legalState, inImage}
 use Rattle.geometry.specs.declared.State.{State}
-use Rattle.geometry.proofs.Apart.{cell-inside, write-inside, read-inside}
+use Rattle.geometry.proofs.Apart.{cell-inside}
 use Rattle.geometry.proofs.Bounds.{Bounds, legal-bounds, bounds-legal}
 
 -- the limits of a state's N, S, B and K
@@ -46,26 +46,14 @@ module _ (st : State) where
   unfolding inImage
   in-image c s = three c (st .cards) s (st .stripes)
 
-  pub in-work : (r j : ℕ) → inWork st r j ≡ true → Inside st r (st .records) j (st .cards)
-  unfolding inWork
-  in-work r j = three r (st .records) j (st .cards)
-
   pub is-in-image : (c s : ℕ) → Inside st c (st .cards) s (st .stripes) → inImage st c s ≡ true
   unfolding inImage
   is-in-image c s = all-three c (st .cards) s (st .stripes)
-
-  pub is-in-work : (r j : ℕ) → Inside st r (st .records) j (st .cards) → inWork st r j ≡ true
-  unfolding inWork
-  is-in-work r j = all-three r (st .records) j (st .cards)
 
   -- the sizes
   pub imageSizeIn-is : BoundsOf st → imageSizeIn st ≡ imageSize (st .cards) (st .stripes) (st .block)
   unfolding imageSizeIn
   imageSizeIn-is b = simp (bounds-legal _ _ _ _ b)
-
-  pub workSizeIn-is : BoundsOf st → workSizeIn st ≡ workSize (st .cards) (st .block) (st .records)
-  unfolding workSizeIn
-  workSizeIn-is b = simp (bounds-legal _ _ _ _ b)
 
   -- a block of the image: where it starts, and that it ends within
   module _ (c s : ℕ) (p : Inside st c (st .cards) s (st .stripes)) where
@@ -79,22 +67,6 @@ module _ (st : State) where
     pub cellPart-is : (image : List ℕ) → imageWrong st image ≡ false → cellPart st c s image ≡ part (cellAt (st .stripes) (st .block) c s) (st .block) image
     unfolding cellPart
     cellPart-is image e = simp (is-in-image c s p, e)
-
-  -- a record's blocks in the work store
-  module _ (r j : ℕ) (p : Inside st r (st .records) j (st .cards)) where
-    pub writeIn-is : writeIn st r j ≡ writeAt (st .cards) (st .block) r j
-    unfolding writeIn
-    writeIn-is = simp (is-in-work r j p)
-
-    pub readIn-is : readIn st r j ≡ readAt (st .cards) (st .block) r j
-    unfolding readIn
-    readIn-is = simp (is-in-work r j p)
-
-    pub writeIn-inside : writeIn st r j + st .block ≤ workSize (st .cards) (st .block) (st .records)
-    writeIn-inside = rw writeIn-is (write-inside (st .cards) (st .block) (st .records) r j (p .first) (p .second))
-
-    pub readIn-inside : readIn st r j + st .block ≤ workSize (st .cards) (st .block) (st .records)
-    readIn-inside = rw readIn-is (read-inside (st .cards) (st .block) (st .records) r j (p .first) (p .second))
 
 -- a part, by the tests that the code makes: that the block is there, and the length
 tested : (there : Bool) (whole size at place block : ℕ) (l : List ℕ)

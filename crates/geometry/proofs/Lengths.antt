@@ -7,11 +7,11 @@ use mathlib.Core.Path.{_≡_, sym, _∙_}
 use lib.Dec.{eqb}
 use lib.ListN.{length}
 use borrow.Author.Tests.{eqb-true, eq-eqb, ne-eqb, not-false}
-use Rattle.geometry.specs.Asked.{imageSizeIn, workSizeIn}
+use Rattle.geometry.specs.Asked.{imageSizeIn}
 use Rattle.geometry.specs.Limits.{beyondState, geometryOf}
 use Rattle.geometry.specs.Store.{imageSize, workSize, imageWrong, workWrong}
 use Rattle.geometry.specs.declared.State.{State}
-use Rattle.geometry.proofs.Asked.{BoundsOf, imageSizeIn-is, workSizeIn-is}
+use Rattle.geometry.proofs.Asked.{BoundsOf, imageSizeIn-is}
 use Rattle.geometry.proofs.Bounds.{within-limits}
 
 module _ (st : State) where
@@ -27,14 +27,6 @@ module _ (st : State) where
     pub image-other : BoundsOf st → ¬ (length l ≡ imageSizeIn st) → imageWrong st l ≡ true
     unfolding imageWrong
     image-other b differ = simp (ne-eqb _ _ (λ e. differ (e ∙ sym (imageSizeIn-is st b))))
-
-    pub work-right : BoundsOf st → length l ≡ workSizeIn st → workWrong st l ≡ false
-    unfolding workWrong
-    work-right b e = simp (eq-eqb _ _ (e ∙ workSizeIn-is st b))
-
-    pub work-other : BoundsOf st → ¬ (length l ≡ workSizeIn st) → workWrong st l ≡ true
-    unfolding workWrong
-    work-other b differ = simp (ne-eqb _ _ (λ e. differ (e ∙ sym (workSizeIn-is st b))))
 
     -- what refusal 2 leaves
     pub image-length : imageWrong st l ≡ false → length l ≡ imageSize (st .cards) (st .stripes) (st .block)

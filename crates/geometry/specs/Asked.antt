@@ -4,26 +4,16 @@ use Prim.Native.Nat.{ℕ}
 use mathlib.Core.Bool.{cond, not, _&&_}
 use mathlib.Core.List.{List, []}
 use Rattle.terms.specs.Lists.{part}
-use Rattle.geometry.specs.Store.{imageSize, workSize, cellAt, writeAt, readAt, imageWrong, legalState, inImage, inWork}
+use Rattle.geometry.specs.Store.{imageSize, cellAt, imageWrong, legalState, inImage}
 use Rattle.geometry.specs.declared.State.{State}
 
--- the sizes of the image and of the work store
+-- the size of the image
 unfoldable pub imageSizeIn : State → ℕ
 imageSizeIn st = cond (legalState st) (imageSize (st .cards) (st .stripes) (st .block)) 0
-
-unfoldable pub workSizeIn : State → ℕ
-workSizeIn st = cond (legalState st) (workSize (st .cards) (st .block) (st .records)) 0
 
 -- where card c's block of stripe s starts in the image
 unfoldable pub cellIn : State → ℕ → ℕ → ℕ
 cellIn st c s = cond (inImage st c s) (cellAt (st .stripes) (st .block) c s) 0
-
--- where record r's block to write of position j starts in the work store, and its block read
-unfoldable pub writeIn : State → ℕ → ℕ → ℕ
-writeIn st r j = cond (inWork st r j) (writeAt (st .cards) (st .block) r j) 0
-
-unfoldable pub readIn : State → ℕ → ℕ → ℕ
-readIn st r j = cond (inWork st r j) (readAt (st .cards) (st .block) r j) 0
 
 -- a block of the image, as a part of an image of the right length
 unfoldable pub cellPart : State → ℕ → ℕ → List ℕ → List ℕ

@@ -43,7 +43,3 @@ legalState st = legal (st .cards) (st .stripes) (st .block) (st .records)
 -- there is a block of card c in stripe s
 unfoldable pub inImage : State → ℕ → ℕ → Bool
 inImage st c s = legalState st && ltb c (st .cards) && ltb s (st .stripes)
-
--- record r has a block to write, and a block read, of position j
-unfoldable pub inWork : State → ℕ → ℕ → Bool
-inWork st r j = legalState st && ltb r (st .records) && ltb j (st .cards)

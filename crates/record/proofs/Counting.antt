@@ -10,35 +10,15 @@ use mir.Syntax.{w64}
 use mir.Val.{Fits}
 use Rattle.terms.proofs.Rows.{and-left, and-right}
 use Rattle.terms.specs.Sets.{bit}
-use Rattle.geometry.specs.declared.State.{State}
 use Rattle.graph.specs.Asked.{afterOr}
 use Rattle.graph.specs.Order.{after}
-use Rattle.record.specs.Asked.{fewIn, canCount, canStep}
+use Rattle.record.specs.Asked.{canCount}
 use Rattle.record.specs.Look.{canMark}
 use Rattle.record.specs.declared.Record.{Record}
 
 pub count-fits : (r : Record) → canCount r ≡ true → Fits w64 (r .count + 1)
 unfolding canCount
 count-fits r e = let h = ltb-true (r .count) 18446744073709551615 e in record { fits = omega arith }
-
-pub record CanStep (st : State) (r : Record) (k : ℕ) : Type 0 where
-  pub few-units : fewIn st ≡ true
-  pub place : ltb k 64 ≡ true
-  pub fresh : bit k (r .done) ≡ false
-  pub room : canCount r ≡ true
-
-pub can-step-elim : (st : State) (r : Record) (k : ℕ) → canStep st r k ≡ true → CanStep st r k
-unfolding canStep
-can-step-elim st r k e =
-    let p : Bool = ltb k 64 && not (bit k (r .done)) in
-    let l = and-left (fewIn st && p) (canCount r) e in
-    let m = and-right (fewIn st) p l in
-    record {
-      few-units = and-left (fewIn st) p l;
-      place = and-left (ltb k 64) (not (bit k (r .done))) m;
-      fresh = not-true (bit k (r .done)) (and-right (ltb k 64) (not (bit k (r .done))) m);
-      room = and-right (fewIn st && p) (canCount r) e;
-    }
 
 pub record CanMark (r : Record) (k : ℕ) : Type 0 where
   pub place : ltb k 64 ≡ true

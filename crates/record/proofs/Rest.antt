@@ -7,7 +7,7 @@ use mathlib.Core.Logic.{⊎-elim}
 use mathlib.Core.Path.{_≡_, refl, sym, ap, _∙_}
 use native.Mathlib.Nat.{le-of-suc-le-suc, not-suc-le-zero}
 use native.Mathlib.Omega.{arith}
-use borrow.Author.Tests.{eqb-true, eqb-false, eq-eqb, ne-eqb, ltb-true, ltb-false, leb-true, leb-false, not-true}
+use borrow.Author.Tests.{eqb-true, eqb-false, eq-eqb, ne-eqb, ltb-true, ltb-false, leb-true, not-true}
 use lib.Dec.{ltb, leb, eqb}
 use lib.ListN.{length, getD, set, length-set, List·getD-eq-default}
 use lib.Seq.{getD-set-same, getD-set-other}
@@ -17,14 +17,13 @@ use Rattle.graph.proofs.Rules.{both-ways}
 use Rattle.record.specs.Asked.{noStripe}
 use Rattle.record.specs.Life.{free, isOpen}
 use Rattle.record.specs.Seen.{seen, seenTo}
-use Rattle.record.specs.Sound.{soundRecord, sound, holds, held}
+use Rattle.record.specs.Sound.{soundRecord, sound, held}
 use Rattle.record.specs.Survey.{looksAt, unseen, surveyOf, surveyBut, heldIn, soundWith}
 use Rattle.record.specs.declared.Record.{Record}
-use Rattle.record.specs.declared.Survey.{Survey}
 use Rattle.record.proofs.Clauses.{fit, free-sound, open-not-free}
 use Rattle.record.proofs.Soundness as soundness
 use Rattle.record.proofs.Surveyed.{seen-next, survey-sound, survey-held}
-use Rattle.record.proofs.SoundTables.{Sound, sound-elim, sound-intro, holds-not, holds-elim, held-elim, held-intro}
+use Rattle.record.proofs.SoundTables.{sound-elim, sound-intro, holds-not, holds-elim, held-elim, held-intro}
 
 and-true : (a b : Bool) → a ≡ b → (a && true) ≡ b
 and-true true b e = e

@@ -15,12 +15,12 @@ use Rattle.terms.specs.Lists.{every}
 use Rattle.geometry.specs.Limits.{none}
 use Rattle.geometry.specs.Placement.{outIn}
 use Rattle.geometry.specs.declared.State.{State}
-use Rattle.graph.proofs.Laws.{ready-elim, progress, member-below}
+use Rattle.graph.proofs.Laws.{progress}
 use Rattle.graph.specs.Asked.{fewUnits}
 use Rattle.graph.specs.Choice.{choose}
 use Rattle.graph.specs.Order.{ready, complete, closed}
-use Rattle.record.specs.Asked.{fewIn, canCount, canStep, steppedOr, afreshOr}
-use Rattle.record.specs.Life.{free, isFree, isOpen, isFinished, isWrite, unitsOf, chosenAt, stepped, afresh}
+use Rattle.record.specs.Asked.{fewIn, canCount}
+use Rattle.record.specs.Life.{free, isFree, isOpen, isFinished, isWrite, unitsOf, chosenAt}
 use Rattle.record.specs.Sound.{legalMask, legalChosen, rightGraph, rightSteps, lacksNone, rightCount, soundRecord, apart, sound}
 use Rattle.record.specs.declared.Record.{Record}
 use Rattle.record.proofs.Clauses.{fit, free-sound, open-not-free, finished-not-open}
@@ -85,20 +85,6 @@ module _ (st : State) (r : Record) where
       let few = few-elim n in
       lt-ltb (r .count) 18446744073709551615
       (⊎-elim (λ o. let c = b .open-lacks (eq-eqb (r .phase) 1 o) .1 in omega arith) (λ o. let c = b .finished-lacks (eq-eqb (r .phase) 2 o) .1 in omega arith) (b .busy))
-
-  -- a ready step of a sound record is marked, and a fresh choice is made
-  pub stepped-is : soundRecord st r ≡ true → isOpen r ≡ true → fewIn st ≡ true → (k : ℕ)
-      → ready (unitsOf st) (r .graph) (r .mask) (chosenAt st r) (r .done) k ≡ true → steppedOr st r k ≡ stepped st r k
-  unfolding steppedOr canStep
-  stepped-is s o n k e =
-      let few = few-elim n in
-      let a = ready-elim (unitsOf st) (r .graph) (r .mask) (chosenAt st r) (r .done) k e in
-      let below = member-below (unitsOf st) (r .graph) (r .mask) (chosenAt st r) k (a .in-graph) in
-      rw (n, lt-ltb k 64 (omega arith), a .not-done, sound-counts s (open-not-free r o) n)
-
-  pub afresh-is : soundRecord st r ≡ true → isOpen r ≡ true → fewIn st ≡ true → afreshOr st r ≡ afresh st r
-  unfolding afreshOr
-  afresh-is s o n = rw (sound-counts s (open-not-free r o) n)
 
 -- ---- of a table
 

@@ -1,7 +1,7 @@
 // A request record, at admission, after a step and after a fresh choice.
 ghost use mathlib.Core.Bool.{cond};
 ghost use mathlib.Core.Path.{_≡_};
-ghost use Rattle.record.specs.Asked.{readyIn, canCount, canStep, steppedOr, afreshOr};
+ghost use Rattle.record.specs.Asked.{readyIn, canCount};
 ghost use Rattle.record.specs.Look.{canMark, afterStep, afterChoice};
 ghost use Rattle.record.specs.Life.{free, unitsOf, chosenAt, admitted};
 use crate::Record;
@@ -104,38 +104,6 @@ impl Record {
         self.can_count()
     }
 
-    // Step k can be marked done.
-    fn can_step(self, state: State, k: u64) -> bool
-        ensures { λ r. ⌜ r ≡ canStep state self k ⌝ }
-    {
-        if units(state) > 7 {
-            return false;
-        }
-        if k > 63 {
-            return false;
-        }
-        if graph::has(k, self.done) {
-            return false;
-        }
-        self.can_count()
-    }
-
-    // The record after its step k is done, finished where that was the last; as it was where k can't be marked.
-    pub fn stepped(mut self, state: State, k: u64) -> Record
-        ensures { λ r. ⌜ r ≡ steppedOr state self k ⌝ }
-    {
-        if !self.can_step(state, k) {
-            return self;
-        }
-        let n = units(state);
-        let x = self.chosen_at(state);
-        let done = graph::after(self.done, k);
-        self.phase = phase_after(graph::complete(n, self.graph, self.mask, x, done));
-        self.done = done;
-        self.count += 1;
-        self
-    }
-
     // The record after its step k is done: finished where none of the steps given is wanting; as it was where k can't be marked.
     pub fn after_step(mut self, k: u64, steps: u64) -> Record
         ensures { λ r. ⌜ r ≡ afterStep self k steps ⌝ }
@@ -162,24 +130,6 @@ impl Record {
         self.phase = 1;
         self.graph = graph::choose(n, write, self.mask, out);
         self.chosen = state.out_in(self.stripe);
-        self.done = 0;
-        self.count += 1;
-        self
-    }
-
-    // The record after its graph is chosen afresh: the done steps are forgotten, and one more counted.
-    pub fn afresh(mut self, state: State) -> Record
-        ensures { λ r. ⌜ r ≡ afreshOr state self ⌝ }
-    {
-        if !self.can_count() {
-            return self;
-        }
-        let n = units(state);
-        let stripe = self.stripe;
-        let write = self.write == 1;
-        self.phase = 1;
-        self.graph = graph::choose(n, write, self.mask, state.missing_in(stripe));
-        self.chosen = state.out_in(stripe);
         self.done = 0;
         self.count += 1;
         self

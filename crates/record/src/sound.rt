@@ -3,14 +3,13 @@ ghost use mathlib.Core.Bool.{false, cond, not, _&&_};
 ghost use mathlib.Core.Path.{_≡_};
 ghost use Prim.Native.Nat.{_+_, _*_, _≤_};
 ghost use lib.Dec.{leb};
-ghost use Rattle.record.specs.Asked.{fewIn, soundRecordIn, heldStripe};
+ghost use Rattle.record.specs.Asked.{fewIn, soundRecordIn};
 ghost use Rattle.record.specs.Life.{isFree, chosenAt, missingIn};
 ghost use Rattle.record.specs.Look.{found, nothing, lookOf};
 ghost use Rattle.record.specs.Sound.{allZero, legalMask, legalRecord, legalChosen};
 use crate::Look;
 use crate::Record;
 use crate::life::units;
-use geometry::NO_STRIPE;
 use geometry::NONE;
 use geometry::State;
 
@@ -183,15 +182,5 @@ impl Record {
         }
         let x = self.chosen_at(state);
         self.looked(state, x, self.missing_now(state, x))
-    }
-
-    // The stripe that the record holds, or a number that is no stripe's.
-    pub(crate) fn held_stripe(self) -> u64
-        ensures { λ r. ⌜ r ≡ heldStripe self ⌝ }
-    {
-        if self.phase == 1 {
-            return self.stripe;
-        }
-        NO_STRIPE
     }
 }
