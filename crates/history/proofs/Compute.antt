@@ -17,7 +17,7 @@ use Rattle.parity.specs.Parity.{byteAt, parityByte, wrongByte, wrongStripe, rig
 use Rattle.record.specs.Life.{admitted, stepped, afresh}
 use Rattle.record.specs.Sound.{allZero, legalMask, legalRecord, legalChosen, rightGraph, rightSteps, lacksNone, rightCount, soundRecord}
 use Rattle.record.specs.Asked.{heldStripe}
-use Rattle.record.specs.Survey.{looksAt, unseen, surveyOf, heldIn}
+use Rattle.record.specs.Survey.{looksAt, unseen, surveyOf, heldIn, soundWith}
 use Rattle.record.specs.Sound.{clash, apart, sound, holds, held, lowestFree}
 use Rattle.array.specs.Admission.{keepUnits, admissionBy, admission}
 use Rattle.array.specs.Collection.{handOver, collectionBy, collection}
@@ -56,7 +56,7 @@ unfolding admitted stepped afresh allZero legalMask legalRecord legalChosen righ
 records = tt
 
 unfoldable tables : Unit {0}
-unfolding clash apart sound holds held lowestFree heldStripe looksAt unseen surveyOf heldIn tableWrong lentRows unitBytes rank
+unfolding clash apart sound holds held lowestFree heldStripe looksAt unseen surveyOf heldIn soundWith tableWrong lentRows unitBytes rank
 tables = tt
 
 unfoldable refusals : Unit {0}
