@@ -115,7 +115,7 @@ module _ (w : World) (a : Account) (sure : Sure w a) where
             (λ f. eqb-false p u e (f ∙ sym (missing-position st placing s u (omega arith) out))))
 
     -- and with none missing the parity is right
-    parity-right : st .out ≡ none → (b : ℕ) → b < st .block → parityByte N (st .stripes) (st .block) (w .image) s b ≡ 0
+    pub parity-right : st .out ≡ none → (b : ℕ) → b < st .block → parityByte N (st .stripes) (st .block) (w .image) s b ≡ 0
     parity-right out b hb =
         parity-sum N (st .stripes) (st .block) placing (w .image) s b
         ∙ xorTo-cong N (cellsOf st (w .image) s b) (rowOf st (a .row) s b)
