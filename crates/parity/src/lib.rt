@@ -89,8 +89,8 @@ fn add_eight(
 }
 
 // Adds the blocks of all cards in a stripe to the sum, and tells whether its first `size` bytes are then all zero. An array has at most
-// eight cards; one that it lacks counts as a block of zero bytes, of which `none` has enough. (The loop for five blocks takes 32 bytes a
-// turn, and where a half is left the one for eight is faster: docs/PERFORMANCE.md.)
+// eight cards; one that it lacks counts as a block of zero bytes, of which `none` has enough. The two calls become two loops; the one
+// for five blocks takes 32 bytes a turn.
 fn add_cards<'a>(
     sum: &mut [u8; 512],
     image: &'a [u8],
@@ -103,10 +103,6 @@ fn add_cards<'a>(
     requires { ⌜ (Fitting cards stripes size (now image)) × (stripe < stripes) × (now none ≡ zeros 512) ⌝ }
     ensures { λ r. ⌜ (now (sum .exit) ≡ summed cards (cell stripes size (now (image .entry)) stripe) (now (sum .entry))) × (r ≡ allZero size (now (sum .exit))) ⌝ }
 {
-    let mut more = true;
-    if cards < 6 {
-        more = size % 32 != 0;
-    }
     let a = cell_or_none(image, none, cards, stripes, size, stripe, 0);
     let b = cell_or_none(image, none, cards, stripes, size, stripe, 1);
     let c = cell_or_none(image, none, cards, stripes, size, stripe, 2);
@@ -115,7 +111,12 @@ fn add_cards<'a>(
     let f = cell_or_none(image, none, cards, stripes, size, stripe, 5);
     let g = cell_or_none(image, none, cards, stripes, size, stripe, 6);
     let h = cell_or_none(image, none, cards, stripes, size, stripe, 7);
-    add_eight(sum, size, more, a, b, c, d, e, f, g, h)
+    if cards < 6 {
+        if size % 32 == 0 {
+            return add_eight(sum, size, false, a, b, c, d, e, f, g, h);
+        }
+    }
+    add_eight(sum, size, true, a, b, c, d, e, f, g, h)
 }
 
 // Whether a stripe is among those to pass over.

@@ -1,10 +1,8 @@
 -- `parity::add_cards` meets its contract: of the eight blocks those of the array's cards count, and the others are zeros.
 -- Assumes nothing.
 use Prim.Native.Nat.{ℕ, _≤_}
-use mathlib.Core.Bool.{false}
 use mathlib.Core.List.{List}
-use mathlib.Core.Logic.{⊎-elim}
-use mathlib.Core.Path.{_≡_, sym, ap, _∙_}
+use mathlib.Core.Path.{_≡_, ap, _∙_}
 use native.Mathlib.Omega.{arith}
 use borrow.Author.Needs.{needs}
 use lib.ListN.{length}
@@ -18,6 +16,15 @@ use Rattle.parity.proofs.add_cards.Tie as tie
 -- the blocks of all cards
 abbrev blocks : tie.Start → ℕ → List ℕ
 blocks c = cellOrNone (c .args .cards) (c .args .stripes) (c .args .size) (c .args .image .now) (c .args .stripe)
+
+-- each has size bytes
+abbrev long : (c : tie.Start) (k : ℕ) → length (blocks c k) ≡ c .args .size
+long c = length-card (c .args .cards) (c .args .stripes) (c .args .size) (c .args .image .now) (c .args .stripe) (c .pre .0) (c .pre .1)
+
+-- from the sixth on they are zeros where there are five cards at most
+abbrev none : (c : tie.Start) → c .args .cards ≤ 5 → (k : ℕ) → 5 ≤ k → blocks c k ≡ zeros (c .args .size)
+none c few k l =
+    card-none (c .args .cards) (c .args .stripes) (c .args .size) (c .args .image .now) (c .args .stripe) k (omega arith)
 
 cell-or-none-requires : tie.Need-cell-or-none-requires
 cell-or-none-requires c κs = search needs
@@ -45,7 +52,7 @@ cell-or-none-requires-8 c κs = search needs
 
 add-eight-requires : tie.Need-add-eight-requires
 add-eight-requires c κs =
-    let h = c .before in
+    let h = c .before .before .before in
     let g = h .before in
     let f = g .before in
     let e = f .before in
@@ -53,34 +60,47 @@ add-eight-requires c κs =
     let third = d .before in
     let b = third .before in
     let a = b .before in
-    let start = a .before .before .before .before in
-    let args = start .args in
-    let join = a .before .if1 in
-    let few : join .more ≡ false → args .cards ≤ 5 =
-    λ q. ⊎-elim (λ w. omega (arith, w .0 .taken)) (λ w. true≢false (sym (w .1) ∙ q)) (join .came) in
-    let none : join .more ≡ false → (k : ℕ) → 5 ≤ k → blocks start k ≡ zeros (args .size) =
-    λ q k l. card-none (args .cards) (args .stripes) (args .size) (args .image .now) (args .stripe) k (omega (arith, few q)) in
-    let long = length-card (args .cards) (args .stripes) (args .size) (args .image .now) (args .stripe) (start .pre .0) (start .pre .1) in (
+    let start = a .before .before .before in (
       omega (arith, c .add-eight-arg .given .0 .1, start .pre .0 .block),
       record {
-        a-long = ap length (a .cell-or-none .ensures) ∙ long 0;
-        b-long = ap length (b .cell-or-none2 .ensures) ∙ long 1;
-        c-long = ap length (third .cell-or-none3 .ensures) ∙ long 2;
-        d-long = ap length (d .cell-or-none4 .ensures) ∙ long 3;
-        e-long = ap length (e .cell-or-none5 .ensures) ∙ long 4;
-        f-long = ap length (f .cell-or-none6 .ensures) ∙ long 5;
-        g-long = ap length (g .cell-or-none7 .ensures) ∙ long 6;
-        h-long = ap length (h .cell-or-none8 .ensures) ∙ long 7;
+        a-long = ap length (a .cell-or-none .ensures) ∙ long start 0;
+        b-long = ap length (b .cell-or-none2 .ensures) ∙ long start 1;
+        c-long = ap length (third .cell-or-none3 .ensures) ∙ long start 2;
+        d-long = ap length (d .cell-or-none4 .ensures) ∙ long start 3;
+        e-long = ap length (e .cell-or-none5 .ensures) ∙ long start 4;
+        f-long = ap length (f .cell-or-none6 .ensures) ∙ long start 5;
+        g-long = ap length (g .cell-or-none7 .ensures) ∙ long start 6;
+        h-long = ap length (h .cell-or-none8 .ensures) ∙ long start 7;
       },
-      (λ q. record {
-        f-zero = f .cell-or-none6 .ensures ∙ none q 5 (omega arith);
-        g-zero = g .cell-or-none7 .ensures ∙ none q 6 (omega arith);
-        h-zero = h .cell-or-none8 .ensures ∙ none q 7 (omega arith);
-      }),
+      (λ q.
+          let few : start .args .cards ≤ 5 = omega (arith, c .before .before .if1 .taken) in
+          record {
+            f-zero = f .cell-or-none6 .ensures ∙ none start few 5 (omega arith);
+            g-zero = g .cell-or-none7 .ensures ∙ none start few 6 (omega arith);
+            h-zero = h .cell-or-none8 .ensures ∙ none start few 7 (omega arith);
+          }),
     )
 
 returns : tie.Need-returns
 returns c =
+    let h = c .before .before .before .before in
+    let g = h .before in
+    let f = g .before in
+    let e = f .before in
+    let d = e .before in
+    let third = d .before in
+    let b = third .before in
+    let a = b .before in
+    let start = a .before .before .before in (
+      c .add-eight .ensures .0
+          ∙ eight-are _ _ _ _ _ _ _ _ (blocks start) (a .cell-or-none .ensures) (b .cell-or-none2 .ensures) (third .cell-or-none3 .ensures) (d .cell-or-none4 .ensures)
+          (e .cell-or-none5 .ensures) (f .cell-or-none6 .ensures) (g .cell-or-none7 .ensures) (h .cell-or-none8 .ensures) (start .args .sum .now)
+          ∙ summed-cards (start .args .cards) (start .args .stripes) (start .args .size) (start .args .image .now) (start .args .stripe) (start .pre .0 .cards) (start .args .sum .now),
+      c .add-eight .ensures .1,
+    )
+
+add-eight-requires-2 : tie.Need-add-eight-requires-2
+add-eight-requires-2 c κs =
     let h = c .before .before in
     let g = h .before in
     let f = g .before in
@@ -89,13 +109,37 @@ returns c =
     let third = d .before in
     let b = third .before in
     let a = b .before in
-    let start = a .before .before .before .before in
-    let args = start .args in (
-      c .add-eight .ensures .0
-          ∙ eight-are _ _ _ _ _ _ _ _ (blocks start) (a .cell-or-none .ensures) (b .cell-or-none2 .ensures)
-          (third .cell-or-none3 .ensures) (d .cell-or-none4 .ensures) (e .cell-or-none5 .ensures) (f .cell-or-none6 .ensures) (g .cell-or-none7 .ensures) (h .cell-or-none8 .ensures) (args .sum .now)
-          ∙ summed-cards (args .cards) (args .stripes) (args .size) (args .image .now) (args .stripe) (start .pre .0 .cards) (args .sum .now),
-      c .add-eight .ensures .1,
+    let start = a .before .before .before in (
+      omega (arith, c .add-eight-arg2 .given .0 .1, start .pre .0 .block),
+      record {
+        a-long = ap length (a .cell-or-none .ensures) ∙ long start 0;
+        b-long = ap length (b .cell-or-none2 .ensures) ∙ long start 1;
+        c-long = ap length (third .cell-or-none3 .ensures) ∙ long start 2;
+        d-long = ap length (d .cell-or-none4 .ensures) ∙ long start 3;
+        e-long = ap length (e .cell-or-none5 .ensures) ∙ long start 4;
+        f-long = ap length (f .cell-or-none6 .ensures) ∙ long start 5;
+        g-long = ap length (g .cell-or-none7 .ensures) ∙ long start 6;
+        h-long = ap length (h .cell-or-none8 .ensures) ∙ long start 7;
+      },
+      true≢false,
+    )
+
+returns-2 : tie.Need-returns-2
+returns-2 c =
+    let h = c .before .before .before in
+    let g = h .before in
+    let f = g .before in
+    let e = f .before in
+    let d = e .before in
+    let third = d .before in
+    let b = third .before in
+    let a = b .before in
+    let start = a .before .before .before in (
+      c .add-eight2 .ensures .0
+          ∙ eight-are _ _ _ _ _ _ _ _ (blocks start) (a .cell-or-none .ensures) (b .cell-or-none2 .ensures) (third .cell-or-none3 .ensures) (d .cell-or-none4 .ensures)
+          (e .cell-or-none5 .ensures) (f .cell-or-none6 .ensures) (g .cell-or-none7 .ensures) (h .cell-or-none8 .ensures) (start .args .sum .now)
+          ∙ summed-cards (start .args .cards) (start .args .stripes) (start .args .size) (start .args .image .now) (start .args .stripe) (start .pre .0 .cards) (start .args .sum .now),
+      c .add-eight2 .ensures .1,
     )
 
 pub add-cards-spec : {M : Type 1} → statement M
@@ -111,4 +155,6 @@ add-cards-spec =
     cell-or-none-requires-7
     cell-or-none-requires-8
     add-eight-requires
-    returns)
+    returns
+    add-eight-requires-2
+    returns-2)
