@@ -13,7 +13,7 @@ use Rattle.terms.proofs.Lists.{set-end}
 use Rattle.terms.proofs.Refusals.{Failed, giving, zero-failed, failed-first, failed-second}
 use Rattle.geometry.specs.Store.{imageWrong, workWrong}
 use Rattle.geometry.specs.declared.State.{State}
-use Rattle.record.proofs.Surveyed.{survey-len}
+use Rattle.record.proofs.SurveyTells.{survey-len}
 use Rattle.record.specs.Life.{unitsOf, admitted}
 use Rattle.record.specs.Sound.{held, legalMask, lowestFree}
 use Rattle.record.specs.Survey.{surveyOf}

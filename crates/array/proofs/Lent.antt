@@ -18,7 +18,8 @@ use Rattle.geometry.specs.Limits.{beyondState}
 use Rattle.geometry.specs.Store.{imageWrong, workWrong, imageSize, workSize}
 use Rattle.geometry.specs.declared.State.{State}
 use Rattle.record.proofs.Rest.{sound-rest}
-use Rattle.record.proofs.Surveyed.{looks-within, survey-len, survey-sound, survey-free, survey-held}
+use Rattle.record.proofs.Surveyed.{looks-within}
+use Rattle.record.proofs.SurveyTells.{survey-len, survey-sound, survey-free, survey-held}
 use Rattle.record.specs.Life.{free}
 use Rattle.record.specs.Sound.{sound, held, lowestFree}
 use Rattle.record.specs.Survey.{looksAt, surveyOf, surveyBut, heldIn, soundWith}

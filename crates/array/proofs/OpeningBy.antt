@@ -8,13 +8,14 @@ use native.Mathlib.Omega.{arith}
 use lib.Dec.{eqb}
 use lib.ListN.{replicate}
 use borrow.Author.Tests.{eq-eqb, ne-eqb}
+use Rattle.terms.specs.Lists.{among}
 use Rattle.terms.proofs.Rows.{or-false-left}
 use Rattle.terms.specs.Reply.{Reply, row, firstRow, accepted, refused}
 use Rattle.geometry.specs.Limits.{none, beyondState}
 use Rattle.geometry.specs.Store.{imageWrong, workWrong}
 use Rattle.geometry.specs.declared.Geometry.{Geometry}
 use Rattle.geometry.specs.declared.State.{State}
-use Rattle.parity.specs.Parity.{passes, rightParity, disagreement}
+use Rattle.parity.specs.Parity.{rightParity, disagreement}
 use Rattle.parity.specs.Scan.{Named, scanOf, reply, lookReply, idleScanReply, idleScanRefusal, nothingHeld}
 use Rattle.parity.specs.declared.Scan.{Scan}
 use Rattle.parity.proofs.Replies.{last-row, idle-all}
@@ -102,7 +103,7 @@ module _ (g : Geometry) (out : ℕ) (len : ℕ) (work image : List ℕ) where
             (sym (last-row right (disagreement (g .cards) (g .stripes) (g .block) image nothingHeld)))
 
         -- the look that passes over no stripe is that scan
-        pub scanned : lookReply st image (passes (replicate 8 1024)) ≡ idleScanReply st image
+        pub scanned : lookReply st image (among (replicate 8 1024)) ≡ idleScanReply st image
         unfolding opened
         scanned = idle-all st image b image-is refl o
 

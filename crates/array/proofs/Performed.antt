@@ -19,7 +19,7 @@ use Rattle.terms.proofs.Sets.{xorTo-cong}
 use Rattle.block.specs.Blocks.{copied, carried, summed, zeros}
 use Rattle.block.proofs.Blocks.{length-summed, getD-summed, copied-whole}
 use Rattle.block.proofs.Carried.{carried-whole, put-mid, mid-part}
-use Rattle.geometry.specs.Placement.{cardAt, cardIn}
+use Rattle.geometry.specs.Placement.{cardOfPosition, cardIn}
 use Rattle.geometry.specs.Store.{cellAt, writeAt, readAt}
 use Rattle.geometry.specs.declared.State.{State}
 use Rattle.geometry.proofs.Asked.{BoundsOf}
@@ -57,7 +57,7 @@ module _ (st : State) (i : ℕ) (r : Record) (work image : List ℕ) (k : Standi
   standing-bounds = legal-bounds (st .cards) (st .stripes) (st .block) (st .records) (k .limits)
 
   -- the card of a position, as the code finds it
-  pub card-found : (p card : ℕ) → p < st .cards → card ≡ cardIn (st .cards) (r .stripe) p → card ≡ cardAt (st .cards) (r .stripe) p
+  pub card-found : (p card : ℕ) → p < st .cards → card ≡ cardIn (st .cards) (r .stripe) p → card ≡ cardOfPosition st (r .stripe) p
   card-found p card h e = e ∙ cardIn-is (st .cards) (r .stripe) p h
 
   pub card-below : (p card : ℕ) → p < st .cards → card ≡ cardIn (st .cards) (r .stripe) p → card < st .cards

@@ -12,7 +12,7 @@ use Rattle.terms.specs.Reply.{row, firstRow}
 use Rattle.geometry.specs.Limits.{none, beyondState}
 use Rattle.geometry.specs.Store.{imageWrong}
 use Rattle.geometry.specs.declared.State.{State}
-use Rattle.parity.specs.Parity.{passes, rightParity, disagreement, looked}
+use Rattle.parity.specs.Parity.{rightParity, disagreement, looked}
 use Rattle.parity.specs.Scan.{Named, scanOf, reply, lookReply}
 use Rattle.parity.specs.declared.Scan.{Scan}
 use Rattle.parity.proofs.Replies.{look-all, last-row}
@@ -57,11 +57,11 @@ module _ (st : State) (v : Survey) (image : List ℕ) where
       scan-out h = refused 12 (sym (own ∙ simp (ne-eqb (st .out) none h))) (λ z. omega arith) (omega arith)
 
       -- nothing else is refused: the look at the stripes that are not held
-      pub scan-all : beyondState st ≡ false → imageWrong st image ≡ false → st .out ≡ none → lookReply st image (passes (v .held)) ≡ scanReplyBy st v image
-      unfolding scanReplyBy scanRows firstRow looked passes heldIn among
+      pub scan-all : beyondState st ≡ false → imageWrong st image ≡ false → st .out ≡ none → lookReply st image (among (v .held)) ≡ scanReplyBy st v image
+      unfolding scanReplyBy scanRows firstRow looked heldIn among
       scan-all b i o =
           let right : Bool = rightParity (st .cards) (st .stripes) (st .block) image (heldIn v) in
           let number : scanRefusal st v image ≡ firstRow (row (not right) 13 ∷ []) = own ∙ simp (eq-eqb (st .out) none o) in
-          sym (look-all st image (passes (v .held)) b i)
+          sym (look-all st image (among (v .held)) b i)
           ∙ last-row right (disagreement (st .cards) (st .stripes) (st .block) image (heldIn v))
           ∙ sym (rw number)

@@ -12,7 +12,7 @@ use Rattle.geometry.proofs.Apart.{cell-inside, write-inside}
 use Rattle.geometry.proofs.Asked.{BoundsOf}
 use Rattle.geometry.proofs.Bounds.{legal-bounds}
 use Rattle.geometry.proofs.Placing.{placed-in}
-use Rattle.geometry.specs.Placement.{cardAt}
+use Rattle.geometry.specs.Placement.{cardOfPosition}
 use Rattle.geometry.specs.Store.{writeAt, readAt}
 use Rattle.geometry.specs.declared.State.{State}
 use Rattle.graph.specs.Steps.{Step, rd, xr, wr, nil}
@@ -30,14 +30,14 @@ module _ (st : State) (work image : List ℕ) (i : ℕ) (r : Record) (at : Stand
   bounds : BoundsOf st
   bounds = legal-bounds _ _ _ _ (at .limits)
 
-  card-in : (p : ℕ) → p < st .cards → cardAt (st .cards) (r .stripe) p < st .cards
+  card-in : (p : ℕ) → p < st .cards → cardOfPosition st (r .stripe) p < st .cards
   card-in p hp = placed-in st (omega (arith, bounds)) .card-below (r .stripe) p hp
 
   -- a read's block, and a write's, are of B bytes
   cell-size : (p : ℕ) → p < st .cards → length (part (cellOf st r p) (st .block) image) ≡ st .block
   cell-size p hp =
       length-part (cellOf st r p) (st .block) image
-      (omega (arith, at .image-right, cell-inside (st .cards) (st .stripes) (st .block) (cardAt (st .cards) (r .stripe) p) (r .stripe) (card-in p hp) (at .stripe-below)))
+      (omega (arith, at .image-right, cell-inside (st .cards) (st .stripes) (st .block) (cardOfPosition st (r .stripe) p) (r .stripe) (card-in p hp) (at .stripe-below)))
 
   new-size : (p : ℕ) → p < st .cards → length (part (writeAt (st .cards) (st .block) i p) (st .block) work) ≡ st .block
   new-size p hp =
@@ -48,7 +48,7 @@ module _ (st : State) (work image : List ℕ) (i : ℕ) (r : Record) (at : Stand
 
   pub read-got : (p b : ℕ) → p < st .cards → b < st .block
       → gotByte (st .cards) (st .block) (workAfter st i r (rd p) work image) i p b
-      ≡ byteAt (st .stripes) (st .block) image (cardAt (st .cards) (r .stripe) p) (r .stripe) b
+      ≡ byteAt (st .stripes) (st .block) image (cardOfPosition st (r .stripe) p) (r .stripe) b
   unfolding workAfter byteAt
   read-got p b hp hb =
       got-put-same (st .cards) (st .block) (st .records) work (at .work-right) i p (at .record-below) hp _ (cell-size p hp) b hb
@@ -124,20 +124,20 @@ module _ (st : State) (work image : List ℕ) (i : ℕ) (r : Record) (at : Stand
   -- ---- a write step: its card's block becomes the block to write of its position
 
   pub write-cell : (p b : ℕ) → p < st .cards → b < st .block
-      → byteAt (st .stripes) (st .block) (imageAfter st i r (wr p) work image) (cardAt (st .cards) (r .stripe) p) (r .stripe) b
+      → byteAt (st .stripes) (st .block) (imageAfter st i r (wr p) work image) (cardOfPosition st (r .stripe) p) (r .stripe) b
       ≡ newByte (st .cards) (st .block) work i p b
   unfolding imageAfter
   write-cell p b hp hb =
-      cell-put-same (st .cards) (st .stripes) (st .block) image (at .image-right) (cardAt (st .cards) (r .stripe) p) (r .stripe)
+      cell-put-same (st .cards) (st .stripes) (st .block) image (at .image-right) (cardOfPosition st (r .stripe) p) (r .stripe)
       (card-in p hp) (at .stripe-below) _ (new-size p hp) b hb
       ∙ getD-part (writeAt (st .cards) (st .block) i p) (st .block) work b 0 hb
 
   pub write-cell-other : (p c t b : ℕ) → p < st .cards → t < st .stripes → b < st .block
-      → (cardAt (st .cards) (r .stripe) p ≡ c → r .stripe ≡ t → ⊥)
+      → (cardOfPosition st (r .stripe) p ≡ c → r .stripe ≡ t → ⊥)
       → byteAt (st .stripes) (st .block) (imageAfter st i r (wr p) work image) c t b ≡ byteAt (st .stripes) (st .block) image c t b
   unfolding imageAfter
   write-cell-other p c t b hp ht hb differ =
-      cell-put-other (st .cards) (st .stripes) (st .block) image (at .image-right) (cardAt (st .cards) (r .stripe) p) (r .stripe)
+      cell-put-other (st .cards) (st .stripes) (st .block) image (at .image-right) (cardOfPosition st (r .stripe) p) (r .stripe)
       (card-in p hp) (at .stripe-below) _ (new-size p hp) c t b ht hb differ
 
   -- ---- any step: lengths stay, and so do other records' blocks and other stripes
@@ -162,7 +162,7 @@ module _ (st : State) (work image : List ℕ) (i : ℕ) (r : Record) (at : Stand
   step-image-length (rd p) hp = refl
   step-image-length xr h = refl
   step-image-length (wr p) hp =
-      cell-put-length (st .cards) (st .stripes) (st .block) image (at .image-right) (cardAt (st .cards) (r .stripe) p) (r .stripe)
+      cell-put-length (st .cards) (st .stripes) (st .block) image (at .image-right) (cardOfPosition st (r .stripe) p) (r .stripe)
       (card-in p hp) (at .stripe-below) _ (new-size p hp)
   step-image-length nil h = refl
 

@@ -9,7 +9,7 @@ use lib.ListN.{getD, set}
 use Rattle.terms.specs.Lists.{tabulate, part, put}
 use Rattle.terms.specs.Reply.{Reply, accepted, refused, onAccept}
 use Rattle.terms.specs.Sets.{xorTo}
-use Rattle.geometry.specs.Placement.{cardAt}
+use Rattle.geometry.specs.Placement.{cardOfPosition}
 use Rattle.geometry.specs.Store.{cellAt, writeAt, readAt}
 use Rattle.geometry.specs.declared.State.{State}
 use Rattle.graph.specs.Steps.{Step, rd, xr, wr, nil, stepOf}
@@ -22,7 +22,7 @@ use Rattle.array.specs.Refusals.{stepRefusal}
 
 -- where the block of position p of the record's stripe starts in the image
 abbrev pub cellOf : State → Record → ℕ → ℕ
-cellOf st r p = cellAt (st .stripes) (st .block) (cardAt (st .cards) (r .stripe) p) (r .stripe)
+cellOf st r p = cellAt (st .stripes) (st .block) (cardOfPosition st (r .stripe) p) (r .stripe)
 
 -- the step's card is out: the position that it reads or writes is the one missing in the stripe
 unfoldable pub meetsOut : ℕ → Step → Bool

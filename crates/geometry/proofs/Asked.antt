@@ -64,10 +64,6 @@ module _ (st : State) where
     pub cellIn-inside : cellIn st c s + st .block ≤ imageSize (st .cards) (st .stripes) (st .block)
     cellIn-inside = rw cellIn-is (cell-inside (st .cards) (st .stripes) (st .block) c s (p .first) (p .second))
 
-    pub cellPart-is : (image : List ℕ) → imageWrong st image ≡ false → cellPart st c s image ≡ part (cellAt (st .stripes) (st .block) c s) (st .block) image
-    unfolding cellPart
-    cellPart-is image e = simp (is-in-image c s p, e)
-
 -- a part, by the tests that the code makes: that the block is there, and the length
 tested : (there : Bool) (whole size at place block : ℕ) (l : List ℕ)
     → (there ≡ true → (whole ≡ size) × (at ≡ place))

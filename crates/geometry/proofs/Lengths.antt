@@ -1,17 +1,16 @@
 -- Refusal 2 of the image and of the work store, by the code's test on the length: `image.len() != state.image_size()`.
 -- Assumes nothing.
 use Prim.Native.Nat.{ℕ}
-use mathlib.Core.Bool.{true, false}
+use mathlib.Core.Bool.{false}
 use mathlib.Core.List.{List}
-use mathlib.Core.Path.{_≡_, sym, _∙_}
+use mathlib.Core.Path.{_≡_}
 use lib.Dec.{eqb}
 use lib.ListN.{length}
-use borrow.Author.Tests.{eqb-true, eq-eqb, ne-eqb, not-false}
-use Rattle.geometry.specs.Asked.{imageSizeIn}
+use borrow.Author.Tests.{eqb-true, not-false}
 use Rattle.geometry.specs.Limits.{beyondState, geometryOf}
 use Rattle.geometry.specs.Store.{imageSize, workSize, imageWrong, workWrong}
 use Rattle.geometry.specs.declared.State.{State}
-use Rattle.geometry.proofs.Asked.{BoundsOf, imageSizeIn-is}
+use Rattle.geometry.proofs.Asked.{BoundsOf}
 use Rattle.geometry.proofs.Bounds.{within-limits}
 
 module _ (st : State) where
@@ -20,14 +19,6 @@ module _ (st : State) where
   state-bounds e = within-limits (geometryOf st) (st .out) e
 
   module _ (l : List ℕ) where
-    pub image-right : BoundsOf st → length l ≡ imageSizeIn st → imageWrong st l ≡ false
-    unfolding imageWrong
-    image-right b e = simp (eq-eqb _ _ (e ∙ imageSizeIn-is st b))
-
-    pub image-other : BoundsOf st → ¬ (length l ≡ imageSizeIn st) → imageWrong st l ≡ true
-    unfolding imageWrong
-    image-other b differ = simp (ne-eqb _ _ (λ e. differ (e ∙ sym (imageSizeIn-is st b))))
-
     -- what refusal 2 leaves
     pub image-length : imageWrong st l ≡ false → length l ≡ imageSize (st .cards) (st .stripes) (st .block)
     unfolding imageWrong

@@ -7,26 +7,26 @@ use mathlib.Core.Path.{_≡_, refl, sym, ap, _∙_}
 use borrow.Author.Tests.{eq-eqb, ne-eqb}
 use lib.Dec.{ltb, eqb}
 use lib.ListN.{length, getD}
-use Rattle.terms.specs.Lists.{every}
+use Rattle.terms.specs.Lists.{every, among}
 use Rattle.terms.proofs.Lists.{every-elim, every-intro}
 use Rattle.terms.proofs.Rows.{true≢false}
 use Rattle.terms.proofs.Sets.{lowest-cong}
-use Rattle.parity.specs.Parity.{wrongByte, wrongStripe, rightParity, disagreement, looked, passes}
+use Rattle.parity.specs.Parity.{wrongByte, wrongStripe, rightParity, disagreement, looked}
 
 module _ (skip : List ℕ) (s : ℕ) where
   -- a stripe that stands in the list is passed over
-  pub passes-found : (k : ℕ) → k < length skip → getD skip k 0 ≡ s → true ≡ passes skip s
-  unfolding passes
-  passes-found k h e = go (every (λ h. not (eqb h s)) skip) refl
+  pub among-found : (k : ℕ) → k < length skip → getD skip k 0 ≡ s → true ≡ among skip s
+  unfolding among
+  among-found k h e = go (every (λ h. not (eqb h s)) skip) refl
     where
       go : (b : Bool) → every (λ h. not (eqb h s)) skip ≡ b → true ≡ not b
       go true q = true≢false (sym (every-elim (λ h. not (eqb h s)) skip k 0 q h) ∙ rw (eq-eqb (getD skip k 0) s e))
       go false q = refl
 
   -- one that does not is looked at
-  pub passes-none : ((k : ℕ) → k < length skip → getD skip k 0 ≡ s → ⊥) → false ≡ passes skip s
-  unfolding passes
-  passes-none n = ap not (sym (every-intro (λ h. not (eqb h s)) skip 0 (λ k h. rw (ne-eqb (getD skip k 0) s (n k h)))))
+  pub among-none : ((k : ℕ) → k < length skip → getD skip k 0 ≡ s → ⊥) → false ≡ among skip s
+  unfolding among
+  among-none n = ap not (sym (every-intro (λ h. not (eqb h s)) skip 0 (λ k h. rw (ne-eqb (getD skip k 0) s (n k h)))))
 
 -- two ways to say which stripes are passed over, the same below S
 module _ (N S B : ℕ) (image : List ℕ) (p q : ℕ → Bool) (same : (s : ℕ) → s < S → p s ≡ q s) where

@@ -7,6 +7,7 @@ use mathlib.Core.Path.{_≡_, refl, sym, ap, _∙_}
 use native.Mathlib.Omega.{arith}
 use borrow.Author.Tests.{eq-eqb, ne-eqb}
 use lib.ListN.{length, getD, replicate, getD-replicate}
+use Rattle.terms.specs.Lists.{among}
 use Rattle.terms.specs.Reply.{Reply, accepted, refused, row, firstRow, onAccept, refusedOr13}
 use Rattle.geometry.specs.Asked.{imageSizeIn}
 use Rattle.geometry.specs.Limits.{none, beyondState, isLost, geometryOf}
@@ -15,9 +16,9 @@ use Rattle.geometry.specs.declared.State.{State}
 use Rattle.geometry.proofs.Asked.{imageSizeIn-is}
 use Rattle.geometry.proofs.Bounds.{Bounds, within-limits}
 use Rattle.parity.specs.Fitting.{Fitting}
-use Rattle.parity.specs.Parity.{rightParity, disagreement, looked, passes}
+use Rattle.parity.specs.Parity.{rightParity, disagreement, looked}
 use Rattle.parity.specs.Scan.{lookRefusal, lookReply, nothingHeld, idleScanRefusal, idleScanReply}
-use Rattle.parity.proofs.Passing.{passes-none, looked-cong}
+use Rattle.parity.proofs.Passing.{among-none, looked-cong}
 
 -- the last row, 13: parity is right, or disagrees
 pub last-row : (right : Bool) (d : Reply)
@@ -78,8 +79,8 @@ module _ (st : State) (image : List ℕ) where
         (last-row (rightParity (st .cards) (st .stripes) (st .block) image pass) (disagreement (st .cards) (st .stripes) (st .block) image pass))
 
   -- none of them is a stripe
-  passes-nothing : beyondState st ≡ false → (s : ℕ) → s < st .stripes → passes noStripes s ≡ false
-  passes-nothing e s h = sym (passes-none noStripes s (λ k l q. omega (arith, limits e .stripes-high, no-stripe k l)))
+  among-nothing : beyondState st ≡ false → (s : ℕ) → s < st .stripes → among noStripes s ≡ false
+  among-nothing e s h = sym (among-none noStripes s (λ k l q. omega (arith, limits e .stripes-high, no-stripe k l)))
 
   pub idle-beyond : beyondState st ≡ true → refused 1 ≡ idleScanReply st image
   unfolding idleScanReply idleScanRefusal firstRow
@@ -99,11 +100,11 @@ module _ (st : State) (image : List ℕ) where
     idle-out l o = rw (e, w, l, ne-eqb (st .out) none o)
 
     -- what is left is the look at all stripes
-    pub idle-all : isLost st ≡ false → st .out ≡ none → lookReply st image (passes noStripes) ≡ idleScanReply st image
+    pub idle-all : isLost st ≡ false → st .out ≡ none → lookReply st image (among noStripes) ≡ idleScanReply st image
     unfolding idleScanReply idleScanRefusal looked firstRow
     idle-all l o =
-        sym (look-all (passes noStripes) e w)
-        ∙ looked-cong (st .cards) (st .stripes) (st .block) image (passes noStripes) nothingHeld (passes-nothing e)
+        sym (look-all (among noStripes) e w)
+        ∙ looked-cong (st .cards) (st .stripes) (st .block) image (among noStripes) nothingHeld (among-nothing e)
         ∙ rw (e, w, l, eq-eqb (st .out) none o)
         (last-row (rightParity (st .cards) (st .stripes) (st .block) image nothingHeld)
         (disagreement (st .cards) (st .stripes) (st .block) image nothingHeld))

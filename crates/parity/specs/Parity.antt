@@ -5,7 +5,7 @@ use mathlib.Core.Bool.{Bool, cond, not, _&&_}
 use mathlib.Core.List.{List}
 use lib.Dec.{ltb, eqb}
 use lib.ListN.{getD}
-use Rattle.terms.specs.Lists.{part, every}
+use Rattle.terms.specs.Lists.{part}
 use Rattle.terms.specs.Reply.{Reply, accepted}
 use Rattle.terms.specs.Sets.{lowest, xorTo}
 use Rattle.block.specs.Blocks.{zeros}
@@ -51,7 +51,3 @@ disagreement N S B image pass =
 -- what a look at all stripes but those passed over answers: parity is right, or refusal 13
 unfoldable pub looked : ℕ → ℕ → ℕ → List ℕ → (ℕ → Bool) → Reply
 looked N S B image pass = cond (rightParity N S B image pass) (accepted 0 0) (disagreement N S B image pass)
-
--- a set of stripes to pass over, as a list of their numbers
-unfoldable pub passes : List ℕ → ℕ → Bool
-passes skip s = not (every (λ h. not (eqb h s)) skip)

@@ -6,7 +6,8 @@ ghost use Prim.Native.Nat.{_≤_, _<_};
 ghost use lib.ListN.{length};
 ghost use Rattle.block.specs.Blocks.{summed, zeros, allZero};
 ghost use Rattle.parity.specs.Fitting.{Fitting, EightLong, LastZero, eight};
-ghost use Rattle.parity.specs.Parity.{cell, cellOrNone, looked, passes};
+ghost use Rattle.parity.specs.Parity.{cell, cellOrNone, looked};
+ghost use Rattle.terms.specs.Lists.{among};
 ghost use Rattle.parity.specs.Scan.{Named, reply, lookReply, idleScanReply};
 use geometry::NO_STRIPE;
 use geometry::NONE;
@@ -121,7 +122,7 @@ fn add_cards<'a>(
 
 // Whether a stripe is among those to pass over.
 fn is_passed(skip: [u64; 8], stripe: u64) -> bool
-    ensures { λ r. ⌜ r ≡ passes skip stripe ⌝ }
+    ensures { λ r. ⌜ r ≡ among skip stripe ⌝ }
 {
     let mut i = 0;
     while i < 8 {
@@ -137,7 +138,7 @@ fn is_passed(skip: [u64; 8], stripe: u64) -> bool
 // serves all stripes: where a stripe's sum is zero, it is again the 512 zero bytes that the next one starts from.
 fn look(image: &[u8], cards: usize, stripes: usize, size: usize, skip: [u64; 8]) -> Scan
     requires { ⌜ Fitting cards stripes size (now image) ⌝ }
-    ensures { λ r. ⌜ (reply r ≡ looked cards stripes size (now (image .entry)) (passes skip)) × Named r ⌝ }
+    ensures { λ r. ⌜ (reply r ≡ looked cards stripes size (now (image .entry)) (among skip)) × Named r ⌝ }
 {
     let none = [0u8; 512];
     let mut sum = [0u8; 512];
@@ -168,7 +169,7 @@ fn look(image: &[u8], cards: usize, stripes: usize, size: usize, skip: [u64; 8])
 
 // The parity of all stripes but those that are passed over. Refusals 1, 2 and 13.
 pub fn scan_but(state: State, image: &[u8], skip: [u64; 8]) -> Scan
-    ensures { λ r. ⌜ (reply r ≡ lookReply state (now (image .entry)) (passes skip)) × Named r ⌝ }
+    ensures { λ r. ⌜ (reply r ≡ lookReply state (now (image .entry)) (among skip)) × Named r ⌝ }
 {
     if state.beyond() {
         return Scan::Refused(1);

@@ -22,9 +22,6 @@ is-number n m d k e = ne-eqb k m (λ f. d (sym (eqb-true k n e) ∙ f))
 pub open-not-free : (r : Record) → isOpen r ≡ true → isFree r ≡ false
 open-not-free r e = is-number 1 0 (λ z. omega arith) (r .phase) e
 
-pub open-not-finished : (r : Record) → isOpen r ≡ true → isFinished r ≡ false
-open-not-finished r e = is-number 1 2 (λ z. omega arith) (r .phase) e
-
 pub finished-not-free : (r : Record) → isFinished r ≡ true → isFree r ≡ false
 finished-not-free r e = is-number 2 0 (λ z. omega arith) (r .phase) e
 

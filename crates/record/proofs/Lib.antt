@@ -9,6 +9,7 @@ pub mod Filling
 pub mod Clauses
 pub mod Soundness
 pub mod Surveyed
+pub mod SurveyTells
 pub mod Looks
 pub mod SoundTables
 pub mod Rest

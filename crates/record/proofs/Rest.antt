@@ -22,7 +22,8 @@ use Rattle.record.specs.Survey.{looksAt, unseen, surveyOf, surveyBut, he
 use Rattle.record.specs.declared.Record.{Record}
 use Rattle.record.proofs.Clauses.{fit, free-sound, open-not-free}
 use Rattle.record.proofs.Soundness as soundness
-use Rattle.record.proofs.Surveyed.{seen-next, survey-sound, survey-held}
+use Rattle.record.proofs.Surveyed.{seen-next}
+use Rattle.record.proofs.SurveyTells.{survey-sound, survey-held}
 use Rattle.record.proofs.SoundTables.{sound-elim, sound-intro, holds-not, holds-elim, held-elim, held-intro}
 
 and-true : (a b : Bool) → a ≡ b → (a && true) ≡ b

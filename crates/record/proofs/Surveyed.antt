@@ -1,4 +1,4 @@
--- A survey that is made record by record is the survey of the table, and what it tells of the table.
+-- A survey that is made record by record is the survey of the table.
 -- Assumes nothing.
 use Prim.Native.Nat.{ℕ, zero, suc, _+_, _≤_, _<_}
 use mathlib.Core.Bool.{Bool, true, false, cond, not, _&&_, Bool·not-not}
@@ -10,10 +10,10 @@ use native.Mathlib.Omega.{arith}
 use borrow.Author.Tests.{ltb-true, ltb-false, lt-ltb, le-ltb, leb-true, le-leb, eqb-true, eqb-false, eq-eqb, ne-eqb, not-true}
 use lib.Dec.{ltb, leb, eqb}
 use lib.ListN.{length, getD, set, List·getD-eq-default}
-use Rattle.terms.proofs.Lists.{length-tabulate, getD-tabulate, every-elim, every-intro}
+use Rattle.terms.proofs.Lists.{getD-tabulate, every-elim, every-intro}
 use Rattle.terms.proofs.Rows.{truth, and-left, and-right, and-both}
 use Rattle.terms.proofs.Sets.{allBelow-elim, allBelow-intro, allBelow-cong, lowest-le, lowest-is, lowest-none, lowest-holds, lowest-before}
-use Rattle.terms.specs.Lists.{tabulate, every, among}
+use Rattle.terms.specs.Lists.{tabulate, every}
 use Rattle.terms.specs.Sets.{allBelow, lowest}
 use Rattle.geometry.proofs.Lengths.{state-bounds}
 use Rattle.geometry.specs.Limits.{beyondState}
@@ -23,14 +23,13 @@ use Rattle.graph.proofs.Rules.{both-ways}
 use Rattle.record.proofs.Clashes.{eqb-sym, apart-elim, apart-intro}
 use Rattle.record.proofs.Clauses.{open-not-free}
 use Rattle.record.proofs.Filling.{entry, entry-at, filling, filling-more, filling-same, filling-is}
-use Rattle.record.proofs.Loops.{all-every}
 use Rattle.record.proofs.Same.{same-survey}
-use Rattle.record.proofs.Soundness.{sound-elim, sound-record}
+use Rattle.record.proofs.Soundness.{sound-elim}
 use Rattle.record.specs.Asked.{fewIn, noStripe, heldStripe, soundRecordIn}
 use Rattle.record.specs.Life.{free, isFree, isOpen, unitsOf}
 use Rattle.record.specs.Seen.{looksAtMany, toSee, started, heldBefore, stillSound, stillFree, seen, seenTo}
 use Rattle.record.specs.Sound.{soundRecord, clash, apart, sound, holds, held, lowestFree}
-use Rattle.record.specs.Survey.{looksAt, unseen, surveyOf, heldIn}
+use Rattle.record.specs.Survey.{looksAt, unseen, surveyOf}
 use Rattle.record.specs.declared.Record.{Record}
 use Rattle.record.specs.declared.Survey.{Survey}
 
@@ -67,7 +66,7 @@ held-free : heldStripe free ≡ noStripe
 unfolding heldStripe
 held-free = refl
 
-free-holds : (s : ℕ) → not (holds s free) ≡ true
+pub free-holds : (s : ℕ) → not (holds s free) ≡ true
 unfolding holds
 free-holds s = refl
 
@@ -300,58 +299,3 @@ pub to-see-most : (st : State) (n : ℕ) → (toSee st n ≤ n) × (toSee st n �
 unfolding toSee
 to-see-most st n =
     ⊎-elim (λ e. let b = looked st n e .few-records in rw e (omega arith, b)) (λ e. rw e (omega arith, omega arith)) (truth (looksAtMany st n))
-
--- ---- what the survey of a table tells
-
-module _ (st : State) (l : List Record) where
-  pub survey-len : surveyOf st l .len ≡ length l
-  unfolding surveyOf unseen
-  survey-len = ⊎-elim (λ e. rw e) (λ e. rw e) (truth (looksAt st l))
-
-  module _ (looks : looksAt st l ≡ true) where
-    pub survey-sound : surveyOf st l .sound ≡ sound st l
-    unfolding surveyOf
-    survey-sound = rw looks
-
-    pub survey-free : surveyOf st l .free ≡ lowestFree l
-    unfolding surveyOf
-    survey-free = rw looks
-
-    -- it holds the stripes that an open request holds
-    pub survey-held : (s : ℕ) → s < noStripe → heldIn (surveyOf st l) s ≡ held l s
-    unfolding surveyOf heldIn among held
-    survey-held s h =
-        rw looks
-        (ap not
-        (both-ways (every (λ a. not (eqb a s)) eight) (every (λ r. not (holds s r)) l)
-        (λ e.
-        every-intro (λ r. not (holds s r)) l free
-        (λ i k. sym (at i (omega (arith, small))) ∙ every-elim (λ a. not (eqb a s)) eight i 0 e (omega (arith, small, length-tabulate 8 (λ i. heldStripe (getD l i free))))))
-        (λ e.
-        every-intro (λ a. not (eqb a s)) eight 0
-        (λ i k.
-        at i (omega (arith, length-tabulate 8 (λ i. heldStripe (getD l i free))))
-        ∙ ⊎-elim (λ a. every-elim (λ r. not (holds s r)) l i free e (ltb-true i (length l) a))
-        (λ a. ap (λ (r : Record). not (holds s r)) (List·getD-eq-default l free {n = i} (ltb-false i (length l) a)) ∙ free-holds s)
-        (truth (ltb i (length l)))))))
-      where
-        eight : List ℕ
-        eight = tabulate 8 (λ i. heldStripe (getD l i free))
-
-        small : length l ≤ 8
-        small = looked st (length l) (sym (looks-many st l) ∙ looks) .few-records
-
-        at : (i : ℕ) → i < 8 → not (eqb (getD eight i 0) s) ≡ not (holds s (getD l i free))
-        at i k =
-            ap (λ (x : ℕ). not (eqb x s)) (getD-tabulate 8 (λ i. heldStripe (getD l i free)) i 0 k)
-            ∙ ap not (holds-stripe (getD l i free) s h)
-
--- a record of a sound table is sound, so that testing it too changes nothing
-pub sound-both : (st : State) (l : List Record) (i : ℕ) → (sound st l && soundRecord st (getD l i free)) ≡ sound st l
-sound-both st l i = ⊎-elim (λ e. and-both (sound st l) (soundRecord st (getD l i free)) e (sound-record st l e i) ∙ sym e) (λ e. rw e) (truth (sound st l))
-
--- all eight are asked where there are eight
-pub held-eight : (v : Survey) (s : ℕ) → length (v .held) ≡ 8 → heldBefore v s 8 ≡ heldIn v s
-unfolding heldBefore heldIn among
-held-eight v s e =
-    ap not (ap (λ (n : ℕ). allBelow n (λ j. not (eqb (getD (v .held) j 0) s))) (sym e) ∙ all-every (λ a. not (eqb a s)) (v .held) 0)

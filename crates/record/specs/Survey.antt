@@ -43,6 +43,6 @@ heldIn v s = among (v .held) s
 abbrev pub surveyBut : State → List Record → ℕ → Survey
 surveyBut st l i = surveyOf st (set l i free)
 
--- the table is sound: by a survey of the rest of it that is, the record is, and it holds no stripe that the rest holds
+-- the table is sound, by a survey of the rest of it and the record: the rest is, the record is, and it holds no stripe that the rest holds
 unfoldable pub soundWith : State → Survey → Record → Bool
 soundWith st v r = v .sound && soundRecord st r && not (isOpen r && heldIn v (r .stripe))

@@ -68,18 +68,7 @@ pub within-intro : (lo hi x : ℕ) → lo ≤ x → x ≤ hi → within lo hi x 
 unfolding within
 within-intro lo hi x p q = and-both (leb lo x) (leb x hi) (le-leb lo x p) (le-leb x hi q)
 
--- a row whose test holds gives its number
-pub firstRow-hit : (t : Bool) (k : ℕ) (rs : List Row) → t ≡ true → firstRow (row t k ∷ rs) ≡ k
-unfolding firstRow
-firstRow-hit t k rs e = ap (λ (u : Bool). cond u k (firstRow rs)) e
-
 -- a row whose test fails is passed over
 pub firstRow-skip : (t : Bool) (k : ℕ) (rs : List Row) → t ≡ false → firstRow (row t k ∷ rs) ≡ firstRow rs
 unfolding firstRow
 firstRow-skip t k rs e = ap (λ (u : Bool). cond u k (firstRow rs)) e
-
--- where nothing is refused no test holds
-pub firstRow-zero : (t : Bool) (k : ℕ) (rs : List Row) → ¬ (k ≡ 0) → firstRow (row t k ∷ rs) ≡ 0 → (t ≡ false) × (firstRow rs ≡ 0)
-unfolding firstRow
-firstRow-zero true k rs h e = absurd (h e)
-firstRow-zero false k rs h e = (refl, e)

@@ -6,7 +6,7 @@ use native.Mathlib.Omega.{arith}
 use borrow.Author.Count.{below-none, below-more}
 use borrow.Author.Needs.{needs}
 use lib.ListN.{length, getD}
-use Rattle.parity.proofs.Passing.{passes-found, passes-none}
+use Rattle.parity.proofs.Passing.{among-found, among-none}
 use Rattle.parity.proofs.is_passed.Statement.{statement}
 use Rattle.parity.proofs.is_passed.Tie as tie
 
@@ -30,7 +30,7 @@ returns c =
     let args = c .before .before .before .args in
     let at = c .before .before .loop in
     let whole : length (args .t1) ≡ 8 = search needs in
-    passes-found (args .t1) (args .stripe) (at .i) (omega arith) (c .if1 .taken)
+    among-found (args .t1) (args .stripe) (at .i) (omega arith) (c .if1 .taken)
 
 add-i : tie.Need-add-i Inv-loop μ-loop
 add-i c = search needs
@@ -45,7 +45,7 @@ returns-2 : tie.Need-returns-2 Inv-loop μ-loop
 returns-2 c =
     let args = c .before .before .args in
     let whole : length (args .t1) ≡ 8 = search needs in
-    passes-none (args .t1) (args .stripe) (λ k h. c .before .loop .inv .1 k (omega arith))
+    among-none (args .t1) (args .stripe) (λ k h. c .before .loop .inv .1 k (omega arith))
 
 pub is-passed-spec : {M : Type 1} → statement M
 is-passed-spec =

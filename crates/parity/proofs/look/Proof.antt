@@ -10,9 +10,9 @@ use native.Mathlib.Omega.{arith}
 use borrow.Author.Count.{below-none, below-more}
 use borrow.Author.Needs.{needs}
 use lib.ListN.{getD}
+use Rattle.terms.specs.Lists.{among}
 use Rattle.block.specs.Blocks.{zeros}
 use Rattle.geometry.proofs.Flags.{fails, holds}
-use Rattle.parity.specs.Parity.{passes}
 use Rattle.parity.specs.Scan.{reply, scanOf}
 use Rattle.parity.proofs.Found.{Looking, wrongIn, reports, reports-passed, sum-right, sum-clear, sum-wrong, sum-wrong-byte, looked-right, looked-wrong}
 use Rattle.parity.proofs.look.Statement.{statement}
@@ -21,7 +21,7 @@ use Rattle.parity.proofs.look.Tie as tie
 -- what is looked at
 abbrev looking : ℕ → ℕ → ℕ → List ℕ → List ℕ → Looking
 looking cards stripes size image skip =
-    record { cards = cards; stripes = stripes; block = size; image = image; pass = passes skip }
+    record { cards = cards; stripes = stripes; block = size; image = image; pass = among skip }
 
 abbrev Inv-loop : tie.InvT-loop
 Inv-loop image cards stripes size skip none sum stripe byte₀ byte = (byte ≤ size) × ((k : ℕ) → k < byte → getD sum k 0 ≡ 0)

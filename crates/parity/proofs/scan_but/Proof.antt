@@ -2,7 +2,7 @@
 -- Assumes nothing.
 use mathlib.Core.Path.{refl, sym, _∙_}
 use borrow.Author.Needs.{needs}
-use Rattle.parity.specs.Parity.{passes}
+use Rattle.terms.specs.Lists.{among}
 use Rattle.parity.specs.Scan.{reply, scanOf}
 use Rattle.parity.proofs.Replies.{image-whole, image-not-whole, fitting, look-beyond, look-length, look-all}
 use Rattle.parity.proofs.scan_but.Statement.{statement}
@@ -15,7 +15,7 @@ returns : tie.Need-returns
 unfolding reply scanOf
 returns c = (
   let args = c .before .before .before .args in
-      look-beyond (args .state) (args .image .now) (passes (args .skip)) (sym (c .before .beyond .ensures) ∙ c .if1 .taken),
+      look-beyond (args .state) (args .image .now) (among (args .skip)) (sym (c .before .beyond .ensures) ∙ c .if1 .taken),
   refl,
 )
 
@@ -27,7 +27,7 @@ unfolding reply scanOf
 returns-2 c = (
   let args = c .before .before .before .before .before .args in
       let inside = sym (c .before .before .before .beyond .ensures) ∙ c .before .before .if1 .left in
-      look-length (args .state) (args .image .now) (passes (args .skip)) inside
+      look-length (args .state) (args .image .now) (among (args .skip)) inside
       (image-not-whole (args .state) (args .image .now) inside (λ q. c .if2 .taken (q ∙ sym (c .before .image-size .ensures)))),
   refl,
 )
@@ -44,7 +44,7 @@ returns-3 c = (
   let args = c .before .before .before .before .before .before .args in
       let inside = sym (c .before .before .before .before .beyond .ensures) ∙ c .before .before .before .if1 .left in
       c .look .ensures .0
-      ∙ look-all (args .state) (args .image .now) (passes (args .skip)) inside
+      ∙ look-all (args .state) (args .image .now) (among (args .skip)) inside
       (image-whole (args .state) (args .image .now) inside (c .before .if2 .left ∙ c .before .before .image-size .ensures)),
   c .look .ensures .1,
 )

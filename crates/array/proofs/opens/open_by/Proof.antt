@@ -5,10 +5,10 @@ use mathlib.Core.Path.{_≡_, sym, ap, _∙_}
 use native.Mathlib.Omega.{arith}
 use denote.Ref.{now}
 use lib.ListN.{replicate}
+use Rattle.terms.specs.Lists.{among}
 use Rattle.geometry.specs.Limits.{beyondState}
 use Rattle.geometry.specs.Store.{imageWrong, workWrong}
 use Rattle.geometry.specs.declared.State.{State}
-use Rattle.parity.specs.Parity.{passes}
 use Rattle.parity.specs.Scan.{reply, lookReply, idleScanReply}
 use Rattle.array.specs.Lent.{tableWrong}
 use Rattle.array.specs.Refusals.{opened}
@@ -73,7 +73,7 @@ says c =
     let a = c .before .before .before .before .before .before .before .before .before .args in
     let k = c .before .before in
     c .scan-but .ensures .0
-    ∙ ap (λ (s : State). lookReply s (now (a .image)) (passes (replicate 8 1024))) (k .before .before .before .before .opened .ensures)
+    ∙ ap (λ (s : State). lookReply s (now (a .image)) (among (replicate 8 1024))) (k .before .before .before .before .opened .ensures)
     ∙ scanned (a .«geometry») (a .out) (a .len) (now (a .work)) (now (a .image)) (inside (k .before .before)) (right k) (c .before .if3 .left)
 
 enum-told : tie.Need-enum-told

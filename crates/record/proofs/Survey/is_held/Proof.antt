@@ -2,7 +2,7 @@
 -- Assumes nothing.
 use mathlib.Core.Path.{_∙_}
 use borrow.Author.Needs.{needs}
-use Rattle.record.proofs.Surveyed.{held-eight}
+use Rattle.record.proofs.SurveyTells.{held-eight}
 use Rattle.record.proofs.Survey.is_held.Statement.{statement}
 use Rattle.record.proofs.Survey.is_held.Tie as tie
 
