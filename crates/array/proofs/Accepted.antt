@@ -5,7 +5,7 @@ use mathlib.Core.Bool.{Bool, true, false, not, _&&_, _||_}
 use mathlib.Core.List.{List, _++_}
 use mathlib.Core.Path.{_≡_, refl, sym, ap, _∙_}
 use native.Mathlib.Omega.{arith}
-use borrow.Author.Tests.{le-leb, leb-false, eqb-true, ltb-true, ltb-false, not-false, ne-eqb}
+use borrow.Author.Tests.{le-leb, leb-false, eqb-true, ltb-true, ltb-false, not-false}
 use lib.Dec.{ltb, eqb}
 use lib.ListN.{length}
 use Rattle.terms.specs.Lists.{every}
@@ -21,15 +21,15 @@ use Rattle.graph.specs.Steps.{Step, stepOf}
 use Rattle.graph.proofs.Forerunners.{ready-of}
 use Rattle.graph.specs.Sums.{sumsToRead}
 use Rattle.record.specs.Asked.{fewIn, soundRecordIn}
-use Rattle.record.specs.Life.{isOpen, isFinished, isWrite, isFree, unitsOf, chosenAt, missingIn, stepped, afresh}
+use Rattle.record.specs.Life.{isOpen, isFinished, isWrite, unitsOf, chosenAt, missingIn, stepped, afresh}
 use Rattle.record.specs.Look.{lookOf, found, afterStep, afterChoice}
 use Rattle.record.specs.declared.Look.{Look}
-use Rattle.record.specs.Sound.{soundRecord, legalMask}
+use Rattle.record.specs.Sound.{soundRecord, legalMask, rightGraph}
 use Rattle.record.specs.Survey.{soundWith}
 use Rattle.record.specs.declared.Record.{Record}
 use Rattle.record.specs.declared.Survey.{Survey}
 use Rattle.record.proofs.Looks.{look-found, after-step-is, after-choice-is}
-use Rattle.record.proofs.Soundness as soundness
+use Rattle.record.proofs.Clauses.{fit, open-not-free, finished-not-free}
 use Rattle.array.specs.Lent.{tableWrong, lentRows, unitBytes}
 use Rattle.array.specs.Premises.{Keeping, Standing, readBy}
 use Rattle.array.specs.Refusals.{admitRefusal, admitRows, stepRefusal, stepRows, collectRefusal, collectRows, payloadWrong, resultShort, stepReady}
@@ -57,23 +57,19 @@ pub mask-below : (n mask : ℕ) → legalMask n mask ≡ true → mask < 2 ^ n
 unfolding legalMask
 mask-below n mask e = ltb-true mask (2 ^ n) (and-right (not (eqb mask 0)) (ltb mask (2 ^ n)) e)
 
--- a record of phase 1 or 2 is not free
-busy : (r : Record) (k : ℕ) → ¬ (k ≡ 0) → eqb (r .phase) k ≡ true → isFree r ≡ false
-busy r k h e = ne-eqb (r .phase) 0 (λ z. h (sym (eqb-true (r .phase) k e) ∙ z))
-
 -- X of a sound record whose exclusive or is of X is one of the stripe's positions
 chosen-below : (st : State) (r : Record) → legalState st ≡ true → soundRecord st r ≡ true → isOpen r ≡ true → sumsToRead (r .graph) ≡ true
     → chosenAt st r < st .cards
-unfolding sumsToRead
+unfolding sumsToRead rightGraph
 chosen-below st r l s o g =
-    let a = soundness.sound-elim st r s (busy r 1 (λ z. omega arith) o) in
-    let x = choose-two (unitsOf st) (isWrite r) (r .mask) (chosenAt st r) (sym (a .right-graph) ∙ eqb-true (r .graph) 2 g) in
+    let a = eqb-true (r .graph) _ (fit st r s (open-not-free r o) .right-graph) in
+    let x = choose-two (unitsOf st) (isWrite r) (r .mask) (chosenAt st r) (sym a ∙ eqb-true (r .graph) 2 g) in
     omega arith
 
 -- what a look at a sound record that is open finds
 module _ (st : State) (r : Record) (look : Look) (is : look ≡ lookOf st r) (b : beyondState st ≡ false) (s : soundRecord st r ≡ true) (o : isOpen r ≡ true) where
   is-found : look ≡ found st r (missingIn st (r .stripe))
-  is-found = is ∙ look-found st r (sound-within st r b ∙ s) (busy r 1 (λ z. omega arith) o)
+  is-found = is ∙ look-found st r (sound-within st r b ∙ s) (open-not-free r o)
 
   x-found : look .x ≡ chosenAt st r
   unfolding found
@@ -130,7 +126,7 @@ module _ (st : State) (v : Survey) (r : Record) (work image : List ℕ) (i k : �
             record {
               limits = legal-state st (p .limits);
               record-below = leb-false (st .records) i (own .0);
-              stripe-below = soundness.sound-elim st r sound (busy r 1 (λ z. omega arith) o) .in-array;
+              stripe-below = fit st r sound (open-not-free r o) .stripe-below;
               work-right = work-length st work (or-false-right (iw || tw) ww (p .lengths));
               image-right = image-length st image (or-false-left iw tw (or-false-left (iw || tw) ww (p .lengths)));
               x-below = chosen-below st r (legal-state st (p .limits)) sound o;
@@ -162,7 +158,7 @@ collect-accepted st v r work i result e reads =
     record {
       limits = legal-state st (p .limits);
       record-below = leb-false (st .records) i (own .0);
-      units-only = soundness.sound-elim st r sound (busy r 2 (λ z. omega arith) (not-false (isFinished r) (own .1 .0))) .units-only;
+      units-only = mask-below (unitsOf st) (r .mask) (fit st r sound (finished-not-free r (not-false (isFinished r) (own .1 .0))) .mask-legal);
       work-right = work-length st work (or-false-right tw ww (p .lengths));
       room = ltb-false (length result) (unitBytes st (r .mask)) (rw reads at (own .1 .1 .0));
     }

@@ -21,7 +21,7 @@ use Rattle.record.specs.Sound.{soundRecord, sound, held}
 use Rattle.record.specs.Survey.{looksAt, unseen, surveyOf, surveyBut, heldIn, soundWith}
 use Rattle.record.specs.declared.Record.{Record}
 use Rattle.record.proofs.Clauses.{fit, free-sound, open-not-free}
-use Rattle.record.proofs.Soundness as soundness
+use Rattle.record.proofs.Soundness.{sound-record}
 use Rattle.record.proofs.Surveyed.{seen-next}
 use Rattle.record.proofs.SurveyTells.{survey-sound, survey-held}
 use Rattle.record.proofs.SoundTables.{sound-elim, sound-intro, holds-not, holds-elim, held-elim, held-intro}
@@ -189,7 +189,7 @@ module _ (st : State) (l : List Record) (i : ℕ) where
 
         from : sound st l ≡ true → (surveyBut st l i .sound && soundRecord st r && clear) ≡ true
         from e =
-            let own = soundness.sound-record st l e i in
+            let own = sound-record st l e i in
             and-both (surveyBut st l i .sound && soundRecord st r) clear
             (and-both (surveyBut st l i .sound) (soundRecord st r) (seen-sound ∙ rest-sound e) own)
             (⊎-elim

@@ -21,10 +21,9 @@ use Rattle.geometry.specs.declared.State.{State}
 use Rattle.graph.proofs.Few.{few}
 use Rattle.graph.proofs.Rules.{both-ways}
 use Rattle.record.proofs.Clashes.{eqb-sym, apart-elim, apart-intro}
-use Rattle.record.proofs.Clauses.{open-not-free}
+use Rattle.record.proofs.Clauses.{fit, open-not-free}
 use Rattle.record.proofs.Filling.{entry, entry-at, filling, filling-more, filling-same, filling-is}
 use Rattle.record.proofs.Same.{same-survey}
-use Rattle.record.proofs.Soundness.{sound-elim}
 use Rattle.record.specs.Asked.{fewIn, noStripe, heldStripe, soundRecordIn}
 use Rattle.record.specs.Life.{free, isFree, isOpen, unitsOf}
 use Rattle.record.specs.Seen.{looksAtMany, toSee, started, heldBefore, stillSound, stillFree, seen, seenTo}
@@ -200,7 +199,7 @@ module _ (st : State) (l : List Record) where
             ap not
             (clash-held (rec i) (rec j)
             (λ o.
-            let b = sound-elim st (rec i) e (open-not-free (rec i) o) .in-array in
+            let b = fit st (rec i) e (open-not-free (rec i) o) .stripe-below in
             let s = of-table .few-stripes in
             omega arith)))
 
