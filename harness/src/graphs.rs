@@ -5,13 +5,12 @@ use crate::plain::{Record, State};
 extern "C" {
     fn graph_test_choose(n: u64, write: bool, mask: u64, x: u64) -> u64;
     fn graph_test_steps(n: u64, g: u64, mask: u64, x: u64) -> u64;
-    fn graph_test_before(n: u64, g: u64, mask: u64, x: u64, k: u64) -> u64;
     fn graph_test_ready(n: u64, g: u64, mask: u64, x: u64, done: u64, k: u64) -> bool;
     fn graph_test_complete(n: u64, g: u64, mask: u64, x: u64, done: u64) -> bool;
     fn graph_test_judge(n: u64, g: u64, mask: u64, x: u64, done: u64) -> u64;
     fn graph_test_kind(n: u64, k: u64) -> u64;
     fn graph_test_place(n: u64, k: u64) -> u64;
-    fn graph_test_taken_reads(n: u64, g: u64, mask: u64, x: u64) -> u64;
+    fn graph_test_reads(n: u64, g: u64, mask: u64, x: u64) -> u64;
     fn graph_test_taken_news(n: u64, g: u64, mask: u64) -> u64;
     fn graph_test_sums_to_read(g: u64) -> bool;
     fn table_test_sound(
@@ -70,10 +69,6 @@ impl Asked {
         unsafe { graph_test_steps(self.units, self.graph, self.mask, self.missing) }
     }
 
-    pub fn before(self, step: u64) -> u64 {
-        unsafe { graph_test_before(self.units, self.graph, self.mask, self.missing, step) }
-    }
-
     pub fn ready(self, done: u64, step: u64) -> bool {
         unsafe { graph_test_ready(self.units, self.graph, self.mask, self.missing, done, step) }
     }
@@ -90,9 +85,9 @@ impl Asked {
         }
     }
 
-    /// The positions whose read blocks the exclusive or takes.
-    pub fn taken_reads(self) -> u64 {
-        unsafe { graph_test_taken_reads(self.units, self.graph, self.mask, self.missing) }
+    /// The positions that the graph reads, whose blocks the exclusive or takes.
+    pub fn reads(self) -> u64 {
+        unsafe { graph_test_reads(self.units, self.graph, self.mask, self.missing) }
     }
 
     /// The positions whose blocks to write it takes.

@@ -5,8 +5,6 @@ pub use choice::choose;
 pub use choice::has;
 pub use order::Judged;
 pub use order::after;
-pub use order::all_steps;
-pub use order::before;
 pub use order::complete;
 pub use order::judge;
 pub use order::part_of;
@@ -16,7 +14,6 @@ pub use steps::Action;
 pub use steps::step_of;
 pub use sums::sums_to_read;
 pub use sums::taken_news;
-pub use sums::taken_reads;
 
 mod choice;
 mod order;

@@ -1,9 +1,9 @@
 // The order of a graph's steps, and done sets. Beyond 7 units, the array's limit, each answers no, or the empty set.
-ghost use mathlib.Core.Bool.{cond, not, _&&_, _||_};
+ghost use mathlib.Core.Bool.{not, _&&_, _||_};
 ghost use mathlib.Core.Path.{_≡_};
 ghost use Prim.Native.Nat.{_+_, _≤_};
 ghost use Rattle.terms.specs.Sets.{setOf};
-ghost use Rattle.graph.specs.Asked.{fewUnits, actionStep, stepSet, beforeSet, partOf, neededBy, readyBy, judged, afterOr};
+ghost use Rattle.graph.specs.Asked.{fewUnits, actionStep, stepSet, partOf, neededBy, readyBy, judged, afterOr};
 ghost use Rattle.graph.specs.Order.{ready, complete, closed};
 ghost use Rattle.graph.specs.Steps.{wr, reads};
 use crate::choice::has;
@@ -54,26 +54,6 @@ fn needed(n: u64, g: u64, reading: u64, action: Action) -> u64
         Action::Write(p) => needed_to_write(n, g, reading, p),
         Action::Nothing => 0,
     }
-}
-
-// The steps of the graph.
-pub fn all_steps(n: u64, g: u64, mask: u64, x: u64) -> u64
-    ensures { λ r. ⌜ r ≡ cond (fewUnits n) (stepSet n g mask x) 0 ⌝ }
-{
-    if n > 7 {
-        return 0;
-    }
-    step_set(n, g, mask, x)
-}
-
-// What must come before step k.
-pub fn before(n: u64, g: u64, mask: u64, x: u64, k: u64) -> u64
-    ensures { λ r. ⌜ r ≡ cond (fewUnits n) (beforeSet n g mask x k) 0 ⌝ }
-{
-    if n > 7 {
-        return 0;
-    }
-    needed(n, g, read_set(n, g, mask, x), step_of(n, k))
 }
 
 // Step k, which does this action, is ready, by the graph's steps and the positions that it reads.

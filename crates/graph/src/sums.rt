@@ -4,19 +4,8 @@ ghost use mathlib.Core.Path.{_≡_};
 ghost use Prim.Native.Nat.{_+_};
 ghost use Rattle.terms.specs.Sets.{setOf};
 ghost use Rattle.graph.specs.Asked.{fewUnits};
-ghost use Rattle.graph.specs.Sums.{takesRead, takesNew, sumsToRead};
+ghost use Rattle.graph.specs.Sums.{takesNew, sumsToRead};
 use crate::sets::masked_set;
-use crate::sets::read_set;
-
-// The positions whose read blocks the exclusive or takes: all that the graph reads.
-pub fn taken_reads(n: u64, g: u64, mask: u64, x: u64) -> u64
-    ensures { λ r. ⌜ r ≡ cond (fewUnits n) (setOf (n + 1) (takesRead n g mask x)) 0 ⌝ }
-{
-    if n > 7 {
-        return 0;
-    }
-    read_set(n, g, mask, x)
-}
 
 // The positions whose blocks to write it takes: a write's new units.
 pub fn taken_news(n: u64, g: u64, mask: u64) -> u64

@@ -3,11 +3,11 @@ ghost use mathlib.Core.Bool.{cond, _&&_};
 ghost use mathlib.Core.Path.{_≡_};
 ghost use Prim.Native.Nat.{_+_};
 ghost use Rattle.terms.specs.Sets.{setOf};
-ghost use Rattle.graph.specs.Asked.{fewUnits, stepSet, beforeSet, judged};
+ghost use Rattle.graph.specs.Asked.{fewUnits, judged};
 ghost use Rattle.graph.specs.Choice.{choose};
 ghost use Rattle.graph.specs.Order.{ready, complete};
 ghost use Rattle.graph.specs.Steps.{stepOf};
-ghost use Rattle.graph.specs.Sums.{takesRead, takesNew, sumsToRead};
+ghost use Rattle.graph.specs.Sums.{takesNew, sumsToRead};
 ghost use Rattle.graph_test.specs.Numbers.{judgedNumber, kindOf, placeOf};
 use graph::Action;
 
@@ -20,16 +20,9 @@ pub extern "C" fn graph_test_choose(n: u64, write: bool, mask: u64, x: u64) -> u
 
 #[no_mangle]
 pub extern "C" fn graph_test_steps(n: u64, g: u64, mask: u64, x: u64) -> u64
-    ensures { λ r. ⌜ r ≡ cond (fewUnits n) (stepSet n g mask x) 0 ⌝ }
+    ensures { λ r. ⌜ r ≡ judged n g mask x 0 .steps ⌝ }
 {
-    graph::all_steps(n, g, mask, x)
-}
-
-#[no_mangle]
-pub extern "C" fn graph_test_before(n: u64, g: u64, mask: u64, x: u64, k: u64) -> u64
-    ensures { λ r. ⌜ r ≡ cond (fewUnits n) (beforeSet n g mask x k) 0 ⌝ }
-{
-    graph::before(n, g, mask, x, k)
+    graph::judge(n, g, mask, x, 0).steps
 }
 
 #[no_mangle]
@@ -90,10 +83,10 @@ pub extern "C" fn graph_test_place(n: u64, k: u64) -> u64
 }
 
 #[no_mangle]
-pub extern "C" fn graph_test_taken_reads(n: u64, g: u64, mask: u64, x: u64) -> u64
-    ensures { λ r. ⌜ r ≡ cond (fewUnits n) (setOf (n + 1) (takesRead n g mask x)) 0 ⌝ }
+pub extern "C" fn graph_test_reads(n: u64, g: u64, mask: u64, x: u64) -> u64
+    ensures { λ r. ⌜ r ≡ judged n g mask x 0 .reads ⌝ }
 {
-    graph::taken_reads(n, g, mask, x)
+    graph::judge(n, g, mask, x, 0).reads
 }
 
 #[no_mangle]

@@ -1,4 +1,4 @@
-//! The choice of a graph, its steps, and what must come before each.
+//! The choice of a graph, its steps, and when each is ready.
 
 use crate::each::{every_request, subsets};
 use harness::graphs::{action, choose, sums_to_read};
@@ -26,14 +26,10 @@ fn what_steps_do() {
 }
 
 #[test]
-fn steps_and_forerunners() {
+fn steps() {
     every_request(|chosen| {
-        let (asked, plan) = (chosen.asked(), chosen.plan());
-        assert_eq!(asked.steps(), plan.steps(), "{asked:?}");
-        for step in 0..=2 * chosen.units + 2 {
-            assert_eq!(asked.before(step), plan.before(step), "step {step} of {asked:?}");
-        }
-        assert_eq!(asked.before(2 * chosen.units + 3), 0);
+        let asked = chosen.asked();
+        assert_eq!(asked.steps(), chosen.plan().steps(), "{asked:?}");
     });
 }
 
@@ -42,7 +38,7 @@ fn steps_and_forerunners() {
 fn sums() {
     every_request(|chosen| {
         let (asked, plan) = (chosen.asked(), chosen.plan());
-        assert_eq!(asked.taken_reads(), plan.reads, "{asked:?}");
+        assert_eq!(asked.reads(), plan.reads, "{asked:?}");
         let new = if (3..=5).contains(&chosen.graph) { chosen.mask } else { 0 };
         assert_eq!(asked.taken_news(), new, "{asked:?}");
         assert_eq!(sums_to_read(chosen.graph), chosen.graph == 2);

@@ -89,10 +89,9 @@ fn sets_and_answers() {
                     let few = units <= 7;
                     assert!(few || asked.steps() == 0, "{asked:?}");
                     assert!(!few || asked.steps() < 1 << (2 * units + 3), "{asked:?}");
-                    let taken = asked.taken_reads() | asked.taken_news();
+                    let taken = asked.reads() | asked.taken_news();
                     assert!(if few { taken < 2 << units } else { taken == 0 }, "{asked:?}");
                     for &number in &NUMBERS {
-                        assert!(few || asked.before(number) == 0, "{asked:?}");
                         assert!(
                             few || !asked.complete(number) && asked.judge(number).is_none(),
                             "{asked:?}"
