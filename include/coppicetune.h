@@ -9,7 +9,7 @@
 #include <stdint.h>
 
 /* Grows with every change to a struct, to a function's arguments or to what an answer means. */
-#define COPPICETUNE_VERSION 1
+#define COPPICETUNE_VERSION 2
 
 #ifdef __cplusplus
 extern "C" {
@@ -18,22 +18,27 @@ extern "C" {
 /* In place of a card: none is out. */
 enum { COPPICETUNE_NONE = 255 };
 
+/* In place of a stripe to be filled next: no fill is under way. */
+enum { COPPICETUNE_NO_FILL = 65535 };
+
 /* The number of an answer: accepted, or why the call is refused. */
 enum {
     COPPICETUNE_ACCEPTED = 0,
-    COPPICETUNE_BEYOND = 1,      /* a number of the state is beyond its limits */
-    COPPICETUNE_LENGTH = 2,      /* the image, the table or the work store is of another length */
-    COPPICETUNE_UNSOUND = 3,     /* the table is not sound */
-    COPPICETUNE_LOST = 4,        /* the array is lost */
-    COPPICETUNE_RANGE = 5,       /* a block, card, stripe or record number is out of range */
-    COPPICETUNE_MASK = 6,        /* the mask is zero, or has a bit beyond the units */
-    COPPICETUNE_BUFFER = 7,      /* the payload is of another length, or the result buffer too small */
-    COPPICETUNE_HELD = 8,        /* an open request holds the stripe */
-    COPPICETUNE_FULL = 9,        /* no record is free */
-    COPPICETUNE_PHASE = 10,      /* the record is not open (step), or not finished (collect) */
-    COPPICETUNE_NOT_READY = 11,  /* the step is not in the graph, is done, or lacks one that must come before */
-    COPPICETUNE_OUT = 12,        /* that card is already out (report), or a card is out (scan, check) */
-    COPPICETUNE_DISAGREES = 13   /* parity disagrees; the values are the lowest stripe and the lowest byte in it */
+    COPPICETUNE_BEYOND = 1,           /* a number of the state is beyond its limits */
+    COPPICETUNE_LENGTH = 2,           /* the image, the table or the work store is of another length */
+    COPPICETUNE_UNSOUND = 3,          /* the table is not sound */
+    COPPICETUNE_LOST = 4,             /* the array is lost */
+    COPPICETUNE_RANGE = 5,            /* a block, card, stripe or record number is out of range */
+    COPPICETUNE_MASK = 6,             /* the mask is zero, or has a bit beyond the units */
+    COPPICETUNE_BUFFER = 7,           /* the payload is of another length, or the result buffer too small */
+    COPPICETUNE_HELD = 8,             /* an open request holds the stripe (admit), or the one to be filled next (rebuild) */
+    COPPICETUNE_FULL = 9,             /* no record is free */
+    COPPICETUNE_PHASE = 10,           /* the record is not open (step), or not finished (collect) */
+    COPPICETUNE_NOT_READY = 11,       /* the step is not in the graph, is done, or lacks one that must come before */
+    COPPICETUNE_OUT = 12,             /* that card is already out and no fill is under way (report), or a card is out (scan, check) */
+    COPPICETUNE_DISAGREES = 13,       /* parity disagrees; the values are the lowest stripe and the lowest byte in it */
+    COPPICETUNE_NOTHING_TO_FILL = 14, /* no card is out (start), or no fill is under way (rebuild) */
+    COPPICETUNE_FILLING = 15          /* a fill is under way already (start) */
 };
 
 /* The phase of a record. */
@@ -44,7 +49,7 @@ static inline uint64_t coppicetune_number(uint64_t answer) { return answer & 0xf
 static inline uint64_t coppicetune_first(uint64_t answer) { return answer >> 16 & 0xffff; }
 static inline uint64_t coppicetune_second(uint64_t answer) { return answer >> 32; }
 
-/* An open array. coppicetune_open fills it in, and coppicetune_report alters it. */
+/* An open array. coppicetune_open fills it in; coppicetune_report, coppicetune_start and coppicetune_rebuild alter it. */
 struct coppicetune_state {
     uint64_t cards;   /* N, 3 to 8 */
     uint64_t stripes; /* S, 1 to 1,024 */
@@ -52,6 +57,7 @@ struct coppicetune_state {
     uint64_t records; /* K, the request records: 1 to 8 */
     uint64_t out;     /* the card that is out, or COPPICETUNE_NONE */
     uint64_t lost;    /* 0: the array is not lost */
+    uint64_t fill;    /* the stripe to be filled next, below S and only where a card is out; or COPPICETUNE_NO_FILL */
 };
 
 /* A request record. A free one is all zero. */
@@ -77,11 +83,11 @@ uint64_t coppicetune_place(uint64_t cards, uint64_t stripes, uint64_t block);
  * Refused by 1 (cards or stripes beyond their limits) or 5 (no such card or stripe). */
 uint64_t coppicetune_block_at(uint64_t cards, uint64_t stripes, uint64_t card, uint64_t stripe);
 
-/* Whether parity is right in every stripe of an array with nothing open. The state's six numbers: `out` is the card that is out, or 255 for
- * none; the array is lost if `lost` is not 0.
+/* Whether parity is right in every stripe of an array with nothing open. The state's seven numbers: `out` is the card that is out, or 255 for
+ * none; the array is lost if `lost` is not 0; `fill` is the stripe to be filled next, or 65535 for no fill.
  * Values: none where parity is right. Refused by 1, 2, 4, 12 or 13; 13 has the lowest stripe and the lowest byte in it where parity disagrees. */
 uint64_t coppicetune_scan(uint64_t cards, uint64_t stripes, uint64_t block, uint64_t records, uint64_t out, uint64_t lost,
-                          const uint8_t *image, size_t image_len);
+                          uint64_t fill, const uint8_t *image, size_t image_len);
 
 /* ---- the engine: the same state, table, work store and image go from call to call */
 
@@ -104,9 +110,20 @@ uint64_t coppicetune_admit(const struct coppicetune_state *state, struct coppice
 uint64_t coppicetune_step(const struct coppicetune_state *state, struct coppicetune_record *table, size_t table_len,
                           uint8_t *work, size_t work_len, uint8_t *image, size_t image_len, uint64_t record, uint64_t step);
 
-/* Marks a card out, or the array lost where another card is out.
+/* Marks a card out, or the array lost where another card is out. Where that card is out and is being filled, the fill ends, and the card is
+ * out in all stripes.
  * Values: none. Refused by 1, 4, 5 or 12. */
 uint64_t coppicetune_report(struct coppicetune_state *state, uint64_t card);
+
+/* Begins to fill a fresh card in the place of the one that is out, at stripe 0. What the fresh card holds does not matter.
+ * Values: none. Refused by 1, 4, 14 or 15. */
+uint64_t coppicetune_start(struct coppicetune_state *state);
+
+/* Fills one stripe: infers the block of the card that is out from the other cards, writes it, and moves on to the next stripe. A stripe that is
+ * filled counts no card out. After the last stripe no card is out.
+ * Values: the stripe that was filled. Refused by 1, 2, 3, 4, 8 or 14. */
+uint64_t coppicetune_rebuild(struct coppicetune_state *state, const struct coppicetune_record *table, size_t table_len, uint8_t *image,
+                             size_t image_len);
 
 /* Collects a finished record, which is freed. A read's units go, ascending, to the front of the result buffer; bytes behind them stay.
  * Values: the accepted steps since admission. Refused by 1 to 5, 10 or 7. */

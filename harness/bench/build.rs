@@ -1,4 +1,4 @@
-//! Compiles the plain C loop at -O3. The package `harness` links the static library of the recorder's C functions.
+//! Compiles the plain C loops at -O3. The package `harness` links the static library of the recorder's C functions.
 use std::path::PathBuf;
 use std::process::Command;
 

@@ -61,30 +61,73 @@ static void block_at(void)
 /* 3 cards, 2 stripes, blocks of 16 bytes, 1 record. */
 static void scan(void)
 {
+    enum { NONE = COPPICETUNE_NONE, NO_FILL = COPPICETUNE_NO_FILL };
     uint8_t image[96] = {0};
-    EXPECT(coppicetune_scan(3, 2, 16, 1, COPPICETUNE_NONE, 0, image, 96), ACCEPTED, 0, 0);
+    EXPECT(coppicetune_scan(3, 2, 16, 1, NONE, 0, NO_FILL, image, 96), ACCEPTED, 0, 0);
     image[21] = 1; /* byte 5 of card 0's block of stripe 1 */
-    EXPECT(coppicetune_scan(3, 2, 16, 1, COPPICETUNE_NONE, 0, image, 96), DISAGREES, 1, 5);
+    EXPECT(coppicetune_scan(3, 2, 16, 1, NONE, 0, NO_FILL, image, 96), DISAGREES, 1, 5);
     image[32 + 15] = 0x80; /* byte 15 of card 1's block of stripe 0 */
-    EXPECT(coppicetune_scan(3, 2, 16, 1, COPPICETUNE_NONE, 0, image, 96), DISAGREES, 0, 15);
+    EXPECT(coppicetune_scan(3, 2, 16, 1, NONE, 0, NO_FILL, image, 96), DISAGREES, 0, 15);
     image[64 + 15] = 0x80; /* the same on card 2: that byte is right again */
-    EXPECT(coppicetune_scan(3, 2, 16, 1, COPPICETUNE_NONE, 0, image, 96), DISAGREES, 1, 5);
-    EXPECT(coppicetune_scan(3, 2, 16, 1, 2, 0, image, 96), OUT, 0, 0);
-    EXPECT(coppicetune_scan(3, 2, 16, 1, 2, 1, image, 96), LOST, 0, 0);
-    EXPECT(coppicetune_scan(3, 2, 16, 1, 2, 1, image, 95), LENGTH, 0, 0);
-    EXPECT(coppicetune_scan(3, 2, 16, 1, 3, 1, image, 95), BEYOND, 0, 0);
-    EXPECT(coppicetune_scan(3, 2, 24, 1, COPPICETUNE_NONE, 0, image, 96), BEYOND, 0, 0);
-    EXPECT(coppicetune_scan(3, 2, 16, 1, COPPICETUNE_NONE, 0, image, 0), LENGTH, 0, 0);
+    EXPECT(coppicetune_scan(3, 2, 16, 1, NONE, 0, NO_FILL, image, 96), DISAGREES, 1, 5);
+    EXPECT(coppicetune_scan(3, 2, 16, 1, 2, 0, NO_FILL, image, 96), OUT, 0, 0);
+    EXPECT(coppicetune_scan(3, 2, 16, 1, 2, 1, NO_FILL, image, 96), LOST, 0, 0);
+    EXPECT(coppicetune_scan(3, 2, 16, 1, 2, 1, NO_FILL, image, 95), LENGTH, 0, 0);
+    EXPECT(coppicetune_scan(3, 2, 16, 1, 3, 1, NO_FILL, image, 95), BEYOND, 0, 0);
+    EXPECT(coppicetune_scan(3, 2, 24, 1, NONE, 0, NO_FILL, image, 96), BEYOND, 0, 0);
+    EXPECT(coppicetune_scan(3, 2, 16, 1, NONE, 0, NO_FILL, image, 0), LENGTH, 0, 0);
+    EXPECT(coppicetune_scan(3, 2, 16, 1, 2, 0, 0, image, 96), OUT, 0, 0);
+    EXPECT(coppicetune_scan(3, 2, 16, 1, 2, 0, 1, image, 96), OUT, 0, 0);
+    EXPECT(coppicetune_scan(3, 2, 16, 1, 2, 0, 2, image, 96), BEYOND, 0, 0);
+    EXPECT(coppicetune_scan(3, 2, 16, 1, NONE, 0, 0, image, 96), BEYOND, 0, 0);
+    EXPECT(coppicetune_scan(3, 2, 16, 1, 2, 0, 65534, image, 96), BEYOND, 0, 0);
+    EXPECT(coppicetune_scan(3, 2, 16, 1, 2, 0, 65536, image, 96), BEYOND, 0, 0);
+    EXPECT(coppicetune_scan(3, 2, 16, 1, 2, 0, UINT64_MAX, image, 96), BEYOND, 0, 0);
+}
+
+/* A number of the state is this one. */
+static void is(const char *name, uint64_t number, uint64_t right)
+{
+    if (number != right) {
+        printf("%s is %" PRIu64 ", and %" PRIu64 " is right\n", name, number, right);
+        wrong++;
+    }
+}
+
+/* The state alone: 3 cards, 2 stripes, blocks of 16 bytes, 1 record. */
+static void start_and_report(void)
+{
+    struct coppicetune_state state = {3, 2, 16, 1, COPPICETUNE_NONE, 0, COPPICETUNE_NO_FILL};
+    EXPECT(coppicetune_start(&state), NOTHING_TO_FILL, 0, 0);
+    EXPECT(coppicetune_report(&state, 3), RANGE, 0, 0);
+    EXPECT(coppicetune_report(&state, 2), ACCEPTED, 0, 0);
+    EXPECT(coppicetune_report(&state, 2), OUT, 0, 0);
+    EXPECT(coppicetune_start(&state), ACCEPTED, 0, 0);
+    is("fill", state.fill, 0);
+    EXPECT(coppicetune_start(&state), FILLING, 0, 0);
+    EXPECT(coppicetune_report(&state, 2), ACCEPTED, 0, 0); /* the fresh card */
+    is("fill", state.fill, 65535);
+    is("out", state.out, 2);
+    is("lost", state.lost, 0);
+    EXPECT(coppicetune_start(&state), ACCEPTED, 0, 0);
+    EXPECT(coppicetune_report(&state, 1), ACCEPTED, 0, 0);
+    is("fill", state.fill, 0);
+    is("out", state.out, 2);
+    is("lost", state.lost, 1);
+    EXPECT(coppicetune_start(&state), LOST, 0, 0);
+    state.fill = 2;
+    EXPECT(coppicetune_start(&state), BEYOND, 0, 0);
+    EXPECT(coppicetune_report(&state, 1), BEYOND, 0, 0);
 }
 
 /* The names stand for the paper's numbers. */
 static void names(void)
 {
-    static const int named[] = {COPPICETUNE_ACCEPTED, COPPICETUNE_BEYOND, COPPICETUNE_LENGTH,    COPPICETUNE_UNSOUND,
-                                COPPICETUNE_LOST,     COPPICETUNE_RANGE,  COPPICETUNE_MASK,      COPPICETUNE_BUFFER,
-                                COPPICETUNE_HELD,     COPPICETUNE_FULL,   COPPICETUNE_PHASE,     COPPICETUNE_NOT_READY,
-                                COPPICETUNE_OUT,      COPPICETUNE_DISAGREES};
-    for (int at = 0; at <= 13; at++) {
+    static const int named[] = {COPPICETUNE_ACCEPTED, COPPICETUNE_BEYOND,    COPPICETUNE_LENGTH,          COPPICETUNE_UNSOUND,
+                                COPPICETUNE_LOST,     COPPICETUNE_RANGE,     COPPICETUNE_MASK,            COPPICETUNE_BUFFER,
+                                COPPICETUNE_HELD,     COPPICETUNE_FULL,      COPPICETUNE_PHASE,           COPPICETUNE_NOT_READY,
+                                COPPICETUNE_OUT,      COPPICETUNE_DISAGREES, COPPICETUNE_NOTHING_TO_FILL, COPPICETUNE_FILLING};
+    for (int at = 0; at <= 15; at++) {
         if (named[at] != at) {
             printf("the name of refusal %d stands for %d\n", at, named[at]);
             wrong++;
@@ -98,5 +141,6 @@ int main(void)
     place();
     block_at();
     scan();
+    start_and_report();
     return wrong == 0 ? 0 : 1;
 }

@@ -78,7 +78,8 @@ static void open_array(void)
                                        STRIPES, BLOCK, RECORDS, COPPICETUNE_NONE);
     expect(answer == 0, "the array opens");
     expect(state.cards == CARDS && state.stripes == STRIPES && state.block == BLOCK &&
-               state.records == RECORDS && state.out == COPPICETUNE_NONE && state.lost == 0,
+               state.records == RECORDS && state.out == COPPICETUNE_NONE && state.lost == 0 &&
+               state.fill == COPPICETUNE_NO_FILL,
            "its state is as asked");
     for (int at = 0; at < RECORDS; at++)
         expect(table[at].phase == COPPICETUNE_FREE, "every record is free");
@@ -163,11 +164,11 @@ static void read_back(void)
     }
 }
 
-/* What the idle array's scan says, by the state's six numbers. */
+/* What the idle array's scan says, by the state's seven numbers. */
 static uint64_t scan(void)
 {
     return coppicetune_scan(state.cards, state.stripes, state.block, state.records, state.out,
-                            state.lost, image, IMAGE);
+                            state.lost, state.fill, image, IMAGE);
 }
 
 int main(void)

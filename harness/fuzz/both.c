@@ -50,7 +50,7 @@ static uint64_t make_tested(const struct ask *ask, struct side *s, int at_end)
         break;
     case SCAN:
         answer = coppicetune_scan(state->cards, state->stripes, state->block, state->records,
-                                  state->out, state->lost, image, s->image_len);
+                                  state->out, state->lost, state->fill, image, s->image_len);
         break;
     case OPEN:
         answer = coppicetune_open(state, table, s->table_len, work, s->work_len, image,
@@ -73,6 +73,12 @@ static uint64_t make_tested(const struct ask *ask, struct side *s, int at_end)
         break;
     case CHECK:
         answer = coppicetune_check(state, table, s->table_len, image, s->image_len);
+        break;
+    case START:
+        answer = coppicetune_start(state);
+        break;
+    case REBUILD:
+        answer = coppicetune_rebuild(state, table, s->table_len, image, s->image_len);
         break;
     }
     room_take(&state_room, &s->state);

@@ -26,7 +26,7 @@ struct side {
 };
 
 /* The calls, from 0 on; plain/src/lib.rs goes by these numbers. */
-enum call { PLACE, BLOCK_AT, SCAN, OPEN, ADMIT, STEP, REPORT, COLLECT, CHECK };
+enum call { PLACE, BLOCK_AT, SCAN, OPEN, ADMIT, STEP, REPORT, COLLECT, CHECK, START, REBUILD };
 
 /* A call and its numbers, in the order of its arguments. */
 struct ask {

@@ -28,7 +28,7 @@ static uint64_t number(uint64_t limit)
     static const uint64_t wild[] = {
         0,    1,    2,    3,    4,       8,           9,           16,         24,
         128,  254,  255,  256,  257,     512,         513,         528,        1023,
-        1024, 1025, 1 << 16, 65535, 1ull << 32, 1ull << 63, 0ull - 1, 0ull - 2,
+        1024, 1025, 65534, 65535, 1 << 16, 1ull << 32, 1ull << 63, 0ull - 1,
     };
     uint8_t byte = next();
     if (byte >= 230)
@@ -56,6 +56,7 @@ static void prepare(void)
     state->block = 16 * (size < 200 ? 1 + size % 3 : 1 + size % 32);
     state->records = 1 + next() % 8;
     state->out = 255;
+    state->fill = COPPICETUNE_NO_FILL;
     ours.table_len = state->records;
     ours.work_len = 2 * state->cards * state->block * state->records;
     ours.image_len = state->cards * state->stripes * state->block;
@@ -137,6 +138,29 @@ static void several_steps(int at_end)
         most -= accepted(make(&ask, at_end));
 }
 
+/* Fills the card that is out, as many stripes as are asked for; most often begun here. */
+static void several_rebuilds(int at_end)
+{
+    uint8_t most = next() % 10;
+    if (most != 9)
+        make(&(struct ask){START, {0}}, at_end);
+    while (most > 0 && accepted(make(&(struct ask){REBUILD, {0}}, at_end)))
+        most--;
+}
+
+/* The bytes of the card that is out, where it is not filled, turn to another. */
+static void decay(void)
+{
+    const state_t *state = &ours.state;
+    uint8_t byte = next();
+    if (state->out >= state->cards || state->cards > 8 || state->stripes > 1024 || state->block > 512)
+        return;
+    size_t card = state->stripes * state->block;
+    size_t filled = state->fill < state->stripes ? state->fill * state->block : 0;
+    for (size_t at = state->out * card + filled; at < (state->out + 1) * card; at++)
+        set_byte(at, (uint8_t)(byte + 3 * at));
+}
+
 /* Changes one number of a record, on both sides. */
 static void change_record(void)
 {
@@ -185,7 +209,7 @@ static void change_length(void)
 static void deed(int at_end)
 {
     state_t now = ours.state;
-    switch (next() % 16) {
+    switch (next() % 20) {
     case 0:
         make(&(struct ask){OPEN, {number(8), number(6), 16 * number(4), number(8), number(255)}},
              at_end);
@@ -233,6 +257,18 @@ static void deed(int at_end)
         break;
     case 15:
         change_length();
+        break;
+    case 16:
+        make(&(struct ask){START, {0}}, at_end);
+        break;
+    case 17:
+        make(&(struct ask){REBUILD, {0}}, at_end);
+        break;
+    case 18:
+        several_rebuilds(at_end);
+        break;
+    case 19:
+        decay();
         break;
     }
 }

@@ -10,6 +10,6 @@ pub fn wild() -> Vec<u64> {
         let power = 1 << width;
         numbers.extend([power - 1, power, power + 1]);
     }
-    numbers.extend([u64::MAX - 1, u64::MAX]);
+    numbers.extend([65_534, u64::MAX - 1, u64::MAX]);
     numbers
 }

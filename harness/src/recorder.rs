@@ -11,6 +11,7 @@ extern "C" {
         records: u64,
         out: u64,
         lost: u64,
+        fill: u64,
         image: *const u8,
         image_len: usize,
     ) -> u64;
@@ -54,6 +55,14 @@ extern "C" {
         step: u64,
     ) -> u64;
     fn coppicetune_report(state: *mut State, card: u64) -> u64;
+    fn coppicetune_start(state: *mut State) -> u64;
+    fn coppicetune_rebuild(
+        state: *mut State,
+        table: *const Record,
+        table_len: usize,
+        image: *mut u8,
+        image_len: usize,
+    ) -> u64;
     fn coppicetune_collect(
         state: *const State,
         table: *mut Record,
@@ -87,9 +96,9 @@ impl Calls for Library {
     }
 
     fn scan(&self, state: &State, image: &[u8]) -> u64 {
-        let State { cards, stripes, block, records, out, lost } = *state;
+        let State { cards, stripes, block, records, out, lost, fill } = *state;
         let (at, len) = (image.as_ptr(), image.len());
-        unsafe { coppicetune_scan(cards, stripes, block, records, out, lost, at, len) }
+        unsafe { coppicetune_scan(cards, stripes, block, records, out, lost, fill, at, len) }
     }
 
     fn open(&self, lent: &mut Lent, asked: &State) -> u64 {
@@ -148,6 +157,15 @@ impl Calls for Library {
 
     fn report(&self, state: &mut State, card: u64) -> u64 {
         unsafe { coppicetune_report(state, card) }
+    }
+
+    fn start(&self, state: &mut State) -> u64 {
+        unsafe { coppicetune_start(state) }
+    }
+
+    fn rebuild(&self, state: &mut State, table: &[Record], image: &mut [u8]) -> u64 {
+        let (at, len) = (image.as_mut_ptr(), image.len());
+        unsafe { coppicetune_rebuild(state, table.as_ptr(), table.len(), at, len) }
     }
 
     fn collect(&self, lent: &mut Lent, record: u64, result: &mut [u8]) -> u64 {

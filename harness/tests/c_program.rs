@@ -40,6 +40,11 @@ fn a_c_program_writes_through_a_failure() {
     run("engine");
 }
 
+#[test]
+fn a_c_program_fills_a_card_while_requests_go_on() {
+    run("fill");
+}
+
 /// The example of README.md is what stands there between the marks of a C text.
 #[test]
 fn the_example_of_the_readme() {

@@ -1,5 +1,5 @@
 //! The scan of an idle array against the independent implementation: the whole answer, on every image and state below.
-use harness::calls::{Answer, Calls, Plain, State, Tested};
+use harness::calls::{Answer, Calls, Plain, Record, State, Tested};
 use harness::numbers::wild;
 use harness::plain::blocks::{make_right, on_card};
 use harness::random::Random;
@@ -172,12 +172,13 @@ fn the_limits() {
             2 => state.block = number,
             3 => state.records = number,
             4 => state.out = number,
-            _ => state.lost = number,
+            5 => state.lost = number,
+            _ => state.fill = number,
         }
         state
     };
-    for first in 0..6 {
-        for second in first..6 {
+    for first in 0..7 {
+        for second in first..7 {
             for &a in &numbers {
                 for &b in &numbers {
                     let state = with(with(State::whole(3, 2, 16), first, a), second, b);
@@ -209,6 +210,12 @@ fn the_lowest_refusal() {
             State { out: state.cards, ..lost },
             State { out: 254, ..lost },
             State { out: 256, ..lost },
+            State { fill: state.stripes, ..lost },
+            State { fill: 65_534, ..lost },
+            State { fill: 65_536, ..lost },
+            State { fill: u64::MAX, ..lost },
+            State { fill: 0, out: 255, ..lost },
+            State { fill: state.stripes - 1, out: 255, ..lost },
         ] {
             assert_eq!(same(&beyond, short), Answer::refused(1));
             assert_eq!(same(&beyond, &image), Answer::refused(1));
@@ -217,10 +224,46 @@ fn the_lowest_refusal() {
         assert_eq!(same(&lost, &image), Answer::refused(4));
         assert_eq!(same(&State { lost: u64::MAX, ..state }, &image), Answer::refused(4));
         for out in 0..state.cards {
-            assert_eq!(same(&State { out, ..state }, &image), Answer::refused(12));
+            for fill in [65_535, 0, state.stripes - 1] {
+                assert_eq!(same(&State { out, fill, ..state }, &image), Answer::refused(12));
+                let lost = State { out, fill, lost: 1, ..state };
+                assert_eq!(same(&lost, &image), Answer::refused(4));
+                assert_eq!(same(&lost, short), Answer::refused(2));
+            }
         }
         for records in 1..=8 {
             assert_eq!(same(&State { records, ..state }, &image), disagrees(0, 0));
         }
     }
+}
+
+/// It answers what the scan of an open array answers with nothing open: of right and wrong images, with a card out or none,
+/// while it fills, lost, and beyond the limits.
+#[test]
+fn what_check_answers_with_nothing_open() {
+    let mut numbers = Random::new(8);
+    let mut given = BTreeSet::new();
+    for state in shapes() {
+        let mut image = right_image(&mut numbers, &state);
+        for _ in 0..12 {
+            let state = State {
+                records: numbers.between(1, 8),
+                out: numbers.pick(&[255, 0, state.cards - 1, state.cards]),
+                lost: numbers.pick(&[0, 0, 0, 1]),
+                fill: numbers.pick(&[65_535, 65_535, 0, state.stripes - 1, state.stripes]),
+                ..state
+            };
+            let table = vec![Record::default(); state.records as usize];
+            let lent = image.len() - numbers.below(8) as usize / 7;
+            let answer = same(&state, &image[..lent]);
+            assert_eq!(
+                answer,
+                Answer::of(Tested.check(&state, &table, &image[..lent])),
+                "{state:?}"
+            );
+            given.insert(answer.number);
+            image[0] ^= numbers.below(2) as u8;
+        }
+    }
+    assert_eq!(given.into_iter().collect::<Vec<_>>(), [0, 1, 2, 4, 12, 13]);
 }

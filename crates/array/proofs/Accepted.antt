@@ -15,7 +15,8 @@ use Rattle.geometry.specs.Limits.{beyondState}
 use Rattle.geometry.specs.Store.{legalState, imageWrong, workWrong}
 use Rattle.geometry.specs.declared.State.{State}
 use Rattle.geometry.proofs.Bounds.{legal-bounds, bounds-legal}
-use Rattle.geometry.proofs.Lengths.{state-bounds, image-length, work-length}
+use Rattle.geometry.proofs.Lengths.{image-length, work-length}
+use Rattle.geometry.proofs.States.{state-bounds}
 use Rattle.graph.specs.Asked.{fewUnits, stepSet, readyBy}
 use Rattle.graph.specs.Steps.{Step, stepOf}
 use Rattle.graph.proofs.Forerunners.{ready-of}

@@ -4,15 +4,18 @@ use Prim.Native.Nat.{ℕ, zero, suc, _+_, _*_, _<_}
 use mathlib.Core.Bool.{Bool, true, false, cond}
 use mathlib.Core.List.{List, [], _∷_, _++_}
 use native.Mathlib.Omega.{arith}
+use lib.Dec.{eqb}
 use lib.ListN.{length, getD, take, drop}
 use Rattle.terms.specs.Lists.{tabulate, part, put, changes}
 use Rattle.terms.specs.Sets.{bit}
 use Rattle.block.proofs.Sums.{sum-lt}
 use Rattle.block.proofs.Xor.{xor-byte}
-use Rattle.geometry.specs.Store.{writeAt, readAt}
+use Rattle.geometry.specs.Store.{cellAt, writeAt, readAt}
 use Rattle.geometry.specs.declared.State.{State}
 use Rattle.graph.specs.Steps.{Step, rd, xr, wr, nil}
 use Rattle.graph.specs.Sums.{takesRead, takesNew}
+use Rattle.parity.specs.Parity.{byteAt}
+use Rattle.parity.specs.Rest.{restOf, restored}
 use Rattle.record.specs.Life.{unitsOf, chosenAt}
 use Rattle.record.specs.declared.Record.{Record}
 use Rattle.array.specs.Admission.{keepUnits}
@@ -110,3 +113,15 @@ module _ (st : State) (i : ℕ) where
       changes-bytes (unitsOf st) _
       (λ u m q. either-bytes (bit u mask) (put-bytes (rank mask u * st .block) (part-bytes (readAt (st .cards) (st .block) i u) (st .block) w) q) q)
       p
+
+-- a block that is restored is a sum of bytes
+pub restored-bytes : (st : State) (c s : ℕ) {image : List ℕ} → Bytes image → Bytes (restored st image c s)
+unfolding restored restOf byteAt
+restored-bytes st c s {image} m =
+    put-bytes (cellAt (st .stripes) (st .block) c s)
+    (tabulate-bytes (st .block) _ (λ b. sum-lt 8 (st .cards) _ (λ d h. pick (eqb d c) (cellAt (st .stripes) (st .block) d s + b))))
+    m
+  where
+    pick : (t : Bool) (at : ℕ) → cond t 0 (getD image at 0) < 256
+    pick true at = omega arith
+    pick false at = byte-at at m

@@ -13,8 +13,10 @@ use lib.ListN.{length, getD, set, length-set}
 use Rattle.terms.specs.Reply.{Row, firstRow}
 use Rattle.terms.proofs.Refusals.{Failed, giving, given, firstRow-behind}
 use Rattle.terms.proofs.Rows.{or-false-left, or-false-right}
-use Rattle.geometry.proofs.Lengths.{state-bounds, image-length, work-length}
+use Rattle.geometry.proofs.Lengths.{image-length, work-length}
+use Rattle.geometry.proofs.States.{state-bounds}
 use Rattle.geometry.specs.Limits.{beyondState}
+use Rattle.geometry.specs.Report.{stateRows}
 use Rattle.geometry.specs.Store.{imageWrong, workWrong, imageSize, workSize}
 use Rattle.geometry.specs.declared.State.{State}
 use Rattle.record.proofs.Rest.{sound-rest}
@@ -92,6 +94,11 @@ Lently number = (number ≡ 0) ⊎ (4 < number)
 pub own-rows : (xs ys : List Row) → Failed xs → giving (λ k. ltb 4 k) ys ≡ true → Lently (firstRow (xs ++ ys))
 own-rows xs ys f g =
     rw (firstRow-behind xs ys f) (⊎-elim (λ e. inl e) (λ e. inr (ltb-true 4 (firstRow ys) e)) (given (λ k. ltb 4 k) ys g))
+
+-- a legal state that is not lost passes the rows of a call that is lent the state alone
+pub state-fine : (st : State) → beyondState st ≡ false → st .lost ≡ 0 → Failed (stateRows st)
+unfolding Failed stateRows
+state-fine st limits whole = (limits, (ap not (eq-eqb (st .lost) 0 whole), tt))
 
 -- what is lent right passes them, whichever things are lent, and so does a record of the table
 module _ (st : State) (table : List Record) (work image : List ℕ) (right : Right st table work image) where

@@ -8,6 +8,8 @@ pub mod Steppings
 pub mod Collections
 pub mod Scannings
 pub mod Reports
+pub mod Starts
+pub mod Rebuildings
 -- The refusals asked of the table itself
 pub mod TableRows
 -- What a step, an admission and a collect alter, block by block

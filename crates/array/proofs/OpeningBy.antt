@@ -11,7 +11,8 @@ use borrow.Author.Tests.{eq-eqb, ne-eqb}
 use Rattle.terms.specs.Lists.{among}
 use Rattle.terms.proofs.Rows.{or-false-left}
 use Rattle.terms.specs.Reply.{Reply, row, firstRow, accepted, refused}
-use Rattle.geometry.specs.Limits.{none, beyondState}
+use Rattle.geometry.proofs.States.{still-beyond}
+use Rattle.geometry.specs.Limits.{none, beyond, beyondState}
 use Rattle.geometry.specs.Store.{imageWrong, workWrong}
 use Rattle.geometry.specs.declared.Geometry.{Geometry}
 use Rattle.geometry.specs.declared.State.{State}
@@ -61,14 +62,19 @@ module _ (g : Geometry) (out : ℕ) (len : ℕ) (work image : List ℕ) where
   abbrev wrong : Bool
   wrong = imageWrong st image || tableWrong st len || workWrong st work
 
+  -- an array that is opened has no fill under way, so that its geometry and the card out decide
+  pub opened-beyond : beyondState st ≡ beyond g out
+  unfolding opened
+  opened-beyond = still-beyond (opened g out) refl
+
   pub open-beyond : beyondState st ≡ true → number ≡ 1
-  unfolding openRefusal opened firstRow
-  open-beyond e = rw e
+  unfolding openRefusal firstRow
+  open-beyond e = rw (sym opened-beyond ∙ e)
 
   module _ (b : beyondState st ≡ false) where
     pub open-lengths : wrong ≡ true → number ≡ 2
-    unfolding openRefusal opened firstRow
-    open-lengths w = simp (b, w)
+    unfolding openRefusal firstRow
+    open-lengths w = simp (sym opened-beyond ∙ b, w)
 
     module _ (w : wrong ≡ false) where
       image-is : imageWrong st image ≡ false
@@ -78,8 +84,8 @@ module _ (g : Geometry) (out : ℕ) (len : ℕ) (work image : List ℕ) where
       right = rightParity (g .cards) (g .stripes) (g .block) image nothingHeld
 
       last : number ≡ firstRow (row (eqb out none && not right) 13 ∷ [])
-      unfolding openRefusal opened firstRow
-      last = simp (b, w)
+      unfolding openRefusal firstRow
+      last = simp (sym opened-beyond ∙ b, w)
 
       -- a card is out: parity is not asked
       pub open-out : ¬ (out ≡ none) → number ≡ 0

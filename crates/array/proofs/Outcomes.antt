@@ -3,10 +3,13 @@
 use Prim.Native.Nat.{ℕ}
 use mathlib.Core.Bool.{Bool, true, false, cond}
 use mathlib.Core.List.{List}
+use mathlib.Core.Logic.{_⊎_, inl, inr}
 use mathlib.Core.Path.{_≡_, refl, sym, ap, _∙_}
 use lib.Dec.{eqb}
-use borrow.Author.Tests.{eq-eqb, ne-eqb}
+use borrow.Author.Tests.{eqb-true, eq-eqb, ne-eqb}
 use Rattle.terms.specs.Reply.{accepted, refused}
+use Rattle.terms.proofs.Rows.{truth}
+use Rattle.geometry.specs.Fill.{movedOn}
 use Rattle.geometry.specs.declared.State.{State}
 use Rattle.graph.specs.Steps.{Step, stepOf}
 use Rattle.record.specs.Life.{free, isWrite, unitsOf, missingIn, admitted, stepped, afresh}
@@ -14,12 +17,16 @@ use Rattle.record.specs.declared.Record.{Record}
 use Rattle.record.specs.declared.Survey.{Survey}
 use Rattle.array.specs.Admission.{admissionBy, keepUnits}
 use Rattle.array.specs.Collection.{collectionBy, handOver}
-use Rattle.array.specs.Outcomes.{AdmissionIs, SteppingIs, CollectionIs, admittedOf, steppedOf, collectedOf}
-use Rattle.array.specs.Refusals.{admitRefusal, stepRefusal, collectRefusal}
+use Rattle.array.specs.Outcomes.{AdmissionIs, SteppingIs, CollectionIs, RebuildingIs, RebuildingSaid, writtenBy, admittedOf, steppedOf, collectedOf, rebuiltOf}
+use Rattle.array.specs.Rebuilding.{rebuildingBy}
+use Rattle.array.specs.Refusals.{admitRefusal, stepRefusal, collectRefusal, rebuildRefusal}
 use Rattle.array.specs.Stepping.{steppingBy, accepting, meetsOut, workAfter, imageAfter}
 use Rattle.array.specs.declared.answers.Admitted.{Admitted}
 use Rattle.array.specs.declared.answers.Collected.{Collected}
+use Rattle.array.specs.declared.answers.Rebuilt.{Rebuilt}
+use Rattle.array.specs.declared.answers.Rebuilding as rebuilding
 use Rattle.array.specs.declared.answers.Stepped.{Stepped}
+use Rattle.array.proofs.Rebuildings.{rebuild-passed-by, filled-restored}
 
 module _ (st : State) (v : Survey) (work image : List ℕ) (write : Bool) (s mask : ℕ) (payload : List ℕ) where
   abbrev number : ℕ
@@ -146,3 +153,42 @@ module _ (st : State) (v : Survey) (r : Record) (work : List ℕ) (i : ℕ) (res
         stands = refl;
         result-left = simp accept left;
       }
+
+module _ (st : State) (v : Survey) (image : List ℕ) where
+  abbrev rebuild-number : ℕ
+  rebuild-number = rebuildRefusal st v image
+
+  pub rebuilding-refused : (k : ℕ) → k ≡ rebuild-number → ¬ (k ≡ 0)
+      → RebuildingSaid (rebuildingBy st v image) (record { answer = Rebuilt.Refused k; state = st })
+  unfolding rebuildingBy rebuiltOf
+  rebuilding-refused k e h =
+      let no-accept : eqb rebuild-number 0 ≡ false = ne-eqb rebuild-number 0 (λ z. h (e ∙ z)) in
+      record {
+        reply = simp no-accept (ap refused e);
+        answer = simp (no-accept, no-accept) (ap Rebuilt.Refused e);
+        state = simp no-accept;
+      }
+
+  pub rebuilding-accepted : (k : ℕ) (s : State) → k ≡ rebuild-number → k ≡ 0 → s ≡ movedOn st
+      → RebuildingSaid (rebuildingBy st v image) (record { answer = Rebuilt.Filled (st .fill); state = s })
+  unfolding rebuildingBy rebuiltOf
+  rebuilding-accepted k s e z q =
+      let accept : eqb rebuild-number 0 ≡ true = eq-eqb rebuild-number 0 (sym e ∙ z) in
+      record { reply = simp accept; answer = simp accept; state = simp accept q }
+
+  -- the block is written by the answer
+  pub rebuilding-written : (o : rebuilding.Rebuilding) → RebuildingSaid (rebuildingBy st v image) o → (m : List ℕ) → m ≡ writtenBy st (o .answer) image
+      → RebuildingIs (rebuildingBy st v image) o m
+  rebuilding-written o said m left =
+      record {
+        reply = said .reply;
+        answer = said .answer;
+        state = said .state;
+        image-left = left ∙ ap (λ (a : Rebuilt). writtenBy st a image) (said .answer) ∙ go (truth (eqb rebuild-number 0));
+      }
+    where
+      go : (eqb rebuild-number 0 ≡ true) ⊎ (eqb rebuild-number 0 ≡ false) → writtenBy st (rebuiltOf (rebuildingBy st v image .reply)) image ≡ rebuildingBy st v image .image
+      go (inl e) =
+          unfold rebuildingBy rebuiltOf writtenBy in
+          simp e (filled-restored st v image (rebuild-passed-by st v image (eqb-true rebuild-number 0 e)))
+      go (inr e) = unfold rebuildingBy rebuiltOf writtenBy in simp (e, e)

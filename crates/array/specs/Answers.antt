@@ -6,6 +6,7 @@ use Rattle.array.specs.declared.answers.Opened.{Opened}
 use Rattle.array.specs.declared.answers.Admitted.{Admitted}
 use Rattle.array.specs.declared.answers.Stepped.{Stepped}
 use Rattle.array.specs.declared.answers.Collected.{Collected}
+use Rattle.array.specs.declared.answers.Rebuilt.{Rebuilt}
 
 -- refusal 13, with the lowest stripe and the lowest byte in it
 abbrev pub disagreeing : ℕ → ℕ → Reply
@@ -28,3 +29,7 @@ steppedReply (Stepped.Refused k) = refused k
 abbrev pub collectedReply : Collected → Reply
 collectedReply (Collected.Steps c) = accepted c 0
 collectedReply (Collected.Refused k) = refused k
+
+abbrev pub rebuiltReply : Rebuilt → Reply
+rebuiltReply (Rebuilt.Filled s) = accepted s 0
+rebuiltReply (Rebuilt.Refused k) = refused k

@@ -5,6 +5,7 @@ pub mod Opening
 pub mod Admission
 pub mod Stepping
 pub mod Collection
+pub mod Rebuilding
 pub mod Scan
 pub mod Answers
 pub mod Premises

@@ -7,7 +7,7 @@ use mathlib.Core.List.{List, [], _∷_, _++_}
 use lib.Dec.{ltb, leb, eqb}
 use lib.ListN.{length}
 use Rattle.terms.specs.Reply.{Row, row, firstRow}
-use Rattle.geometry.specs.Limits.{none, beyond}
+use Rattle.geometry.specs.Limits.{none, noFill, underWay, beyond}
 use Rattle.geometry.specs.Store.{imageWrong, workWrong}
 use Rattle.geometry.specs.declared.Geometry.{Geometry}
 use Rattle.geometry.specs.declared.State.{State}
@@ -21,10 +21,10 @@ use Rattle.record.specs.declared.Record.{Record}
 use Rattle.record.specs.declared.Survey.{Survey}
 use Rattle.array.specs.Lent.{tableWrong, lentRows, unitBytes}
 
--- the state that an accepted opening makes of a geometry
+-- the state that an accepted opening makes of a geometry; no fill is under way
 unfoldable pub opened : Geometry → ℕ → State
 opened g out =
-    record { cards = g .cards; stripes = g .stripes; block = g .block; records = g .records; out = out; lost = 0 }
+    record { cards = g .cards; stripes = g .stripes; block = g .block; records = g .records; out = out; lost = 0; fill = noFill }
 
 -- open, over a table of so many records: 1, 2 and 13
 unfoldable pub openRefusal : Geometry → ℕ → ℕ → List ℕ → List ℕ → ℕ
@@ -90,3 +90,10 @@ scanRows st v image =
 
 unfoldable pub scanRefusal : State → Survey → List ℕ → ℕ
 scanRefusal st v image = firstRow (lentRows st (imageWrong st image || tableWrong st (v .len)) (v .sound) ++ scanRows st v image)
+
+-- rebuild: 1 to 4, 8 where an open request holds the stripe at the fill place, 14 where no fill was begun; it isn't lent the work store
+unfoldable pub rebuildRows : State → Survey → List Row
+rebuildRows st v = row (heldIn v (st .fill)) 8 ∷ row (not (underWay st)) 14 ∷ []
+
+unfoldable pub rebuildRefusal : State → Survey → List ℕ → ℕ
+rebuildRefusal st v image = firstRow (lentRows st (imageWrong st image || tableWrong st (v .len)) (v .sound) ++ rebuildRows st v)

@@ -29,6 +29,12 @@ pub enum Collected {
     Refused(u64),
 }
 
+// Of rebuild: the stripe that was filled.
+pub enum Rebuilt {
+    Filled(u64),
+    Refused(u64),
+}
+
 // What open hands back: its answer, and the new state, all zero if refused.
 pub struct Opening {
     pub answer: Opened,
@@ -53,4 +59,10 @@ pub struct Collection {
     pub answer: Collected,
     pub place: u64,
     pub record: Record,
+}
+
+// What rebuild hands back: its answer, and the state after it.
+pub struct Rebuilding {
+    pub answer: Rebuilt,
+    pub state: State,
 }

@@ -1,5 +1,5 @@
-// The calls on an array: open, admit, step, collect and scan, over a table by value; and by a survey of the table, or its length, for
-// whoever lends it. (Report is lent the state alone, and is a method of it.)
+// The calls on an array: open, admit, step, collect, scan and rebuild, over a table by value; and by a survey of the table, or its length,
+// for whoever lends it. (Report and start are lent the state alone, and are methods of it.)
 // Assumes nothing.
 pub use admits::admit;
 pub use admits::admit_by;
@@ -7,6 +7,10 @@ pub use collects::collect;
 pub use collects::collect_by;
 pub use opens::open;
 pub use opens::open_by;
+pub use rebuilds::rebuild;
+pub use rebuilds::rebuild_by;
+pub use rebuilds::rebuild_image;
+pub use rebuilds::rebuild_next;
 pub use scans::scan;
 pub use scans::scan_by;
 pub use stepping::step;
@@ -18,6 +22,7 @@ mod collects;
 mod opens;
 mod performs;
 mod places;
+mod rebuilds;
 mod refusals;
 mod scans;
 mod stepping;

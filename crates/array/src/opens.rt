@@ -8,6 +8,7 @@ use crate::answers::Opened;
 use crate::answers::Opening;
 use crate::refusals::lent_wrong;
 use geometry::Geometry;
+use geometry::NO_FILL;
 use geometry::NO_STRIPE;
 use geometry::NONE;
 use geometry::State;
@@ -26,6 +27,7 @@ fn zero_state() -> State
         records: 0,
         out: 0,
         lost: 0,
+        fill: 0,
     }
 }
 
@@ -40,6 +42,7 @@ fn opened(g: Geometry, out: u64) -> State
         records: g.records,
         out,
         lost: 0,
+        fill: NO_FILL,
     }
 }
 

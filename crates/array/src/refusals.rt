@@ -23,6 +23,17 @@ pub(crate) fn image_wrong(state: State, image: &[u8]) -> bool
     image.len() != image_size(state)
 }
 
+// Whether the image or a table of so many records is not of its length.
+pub(crate) fn seen_wrong(state: State, len: u64, image: &[u8]) -> bool
+    requires { ⌜ legalState state ≡ true ⌝ }
+    ensures { λ r. ⌜ r ≡ (imageWrong state (now (image .entry)) || tableWrong state len) ⌝ }
+{
+    if image_wrong(state, image) {
+        return true;
+    }
+    len != state.records
+}
+
 // Whether a table of so many records, or the work store, is not of its length.
 pub(crate) fn stores_wrong(state: State, len: u64, work: &[u8]) -> bool
     requires { ⌜ legalState state ≡ true ⌝ }

@@ -1,32 +1,18 @@
 // Scan: the parity of the stripes that no open request holds.
 // Assumes nothing.
-ghost use mathlib.Core.Bool.{true, _||_};
 ghost use mathlib.Core.Path.{_≡_};
 ghost use Rattle.parity.specs.Scan.{Named, reply};
-ghost use Rattle.array.specs.Lent.{tableWrong};
 ghost use Rattle.array.specs.Scan.{scanReplyBy};
-ghost use Rattle.geometry.specs.Store.{legalState, imageWrong};
 ghost use Rattle.record.specs.Life.{recordsOf};
 ghost use Rattle.record.specs.Survey.{surveyOf};
-use crate::refusals::image_wrong;
 use crate::refusals::lent_refusal;
+use crate::refusals::seen_wrong;
 use geometry::NONE;
 use geometry::State;
 use parity::Scan;
 use parity::scan_but;
 use record::Survey;
 use record::Table;
-
-// Whether the image or a table of so many records is not of its length.
-fn seen_wrong(state: State, len: u64, image: &[u8]) -> bool
-    requires { ⌜ legalState state ≡ true ⌝ }
-    ensures { λ r. ⌜ r ≡ (imageWrong state (now (image .entry)) || tableWrong state len) ⌝ }
-{
-    if image_wrong(state, image) {
-        return true;
-    }
-    len != state.records
-}
 
 // Scans the stripes that no open request holds, by a survey of the table. It isn't lent the work store.
 pub fn scan_by(state: State, survey: Survey, image: &[u8]) -> Scan

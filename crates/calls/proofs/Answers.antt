@@ -4,10 +4,13 @@ use Rattle.walk.proofs.Words.{[], _∷_, Data, Is, AreLows, struct-data, enum-d
 use Rattle.array.specs.declared.answers.Admission.{Admission}
 use Rattle.array.specs.declared.answers.Collection.{Collection}
 use Rattle.array.specs.declared.answers.Opening.{Opening}
+use Rattle.array.specs.declared.answers.Rebuilding.{Rebuilding}
 use Rattle.array.specs.declared.answers.Stepping.{Stepping}
+use Rattle.geometry.specs.declared.fill.Start.{Start}
 use Rattle.geometry.specs.declared.report.Report.{Report}
 use Rattle.array.proofs.answers as by
 use Rattle.geometry.proofs.Geometry as G
+use Rattle.geometry.proofs.fill as fills
 use Rattle.geometry.proofs.report as reports
 use Rattle.parity.proofs.Scan as N
 
@@ -28,8 +31,14 @@ stepped-data = enum-data by.Stepped.the-type by.Stepped.Laws.the-laws tt by.Step
 abbrev pub reported-data : Data reports.Reported.the-row
 reported-data = enum-data reports.Reported.the-type reports.Reported.Laws.the-laws tt reports.Reported.Laws.the-plain reports.Reported.Laws.the-copy reports.Reported.Laws.lowers
 
+abbrev pub started-data : Data fills.Started.the-row
+started-data = enum-data fills.Started.the-type fills.Started.Laws.the-laws tt fills.Started.Laws.the-plain fills.Started.Laws.the-copy fills.Started.Laws.lowers
+
 abbrev pub collected-data : Data by.Collected.the-row
 collected-data = enum-data by.Collected.the-type by.Collected.Laws.the-laws tt by.Collected.Laws.the-plain by.Collected.Laws.the-copy by.Collected.Laws.lowers
+
+abbrev pub rebuilt-data : Data by.Rebuilt.the-row
+rebuilt-data = enum-data by.Rebuilt.the-type by.Rebuilt.Laws.the-laws tt by.Rebuilt.Laws.the-plain by.Rebuilt.Laws.the-copy by.Rebuilt.Laws.lowers
 
 abbrev pub scan-data : Data N.the-row
 scan-data = enum-data N.the-type N.Laws.the-laws tt N.Laws.the-plain N.Laws.the-copy N.Laws.lowers
@@ -60,8 +69,20 @@ report-data = struct-data reports.Report.the-type reports.Report.Laws.the-laws r
 pub report-parts : (r : Report) → Is reports.Report.the-row r (report-data .val r ∷ []) → AreLows (reports.Report.struct .parts) reports.Report.Laws.the-laws (reports.Report.struct .as-values r)
 report-parts r is = parts reports.Report.struct reports.Report.propositions reports.Report.Laws.the-laws r _ is
 
+abbrev pub start-data : Data fills.Start.the-row
+start-data = struct-data fills.Start.the-type fills.Start.Laws.the-laws fills.Start.Laws.the-plain fills.Start.Laws.the-copy fills.Start.Laws.lowers
+
+pub start-parts : (r : Start) → Is fills.Start.the-row r (start-data .val r ∷ []) → AreLows (fills.Start.struct .parts) fills.Start.Laws.the-laws (fills.Start.struct .as-values r)
+start-parts r is = parts fills.Start.struct fills.Start.propositions fills.Start.Laws.the-laws r _ is
+
 abbrev pub collection-data : Data by.Collection.the-row
 collection-data = struct-data by.Collection.the-type by.Collection.Laws.the-laws by.Collection.Laws.the-plain by.Collection.Laws.the-copy by.Collection.Laws.lowers
 
 pub collection-parts : (r : Collection) → Is by.Collection.the-row r (collection-data .val r ∷ []) → AreLows (by.Collection.struct .parts) by.Collection.Laws.the-laws (by.Collection.struct .as-values r)
 collection-parts r is = parts by.Collection.struct by.Collection.propositions by.Collection.Laws.the-laws r _ is
+
+abbrev pub rebuilding-data : Data by.Rebuilding.the-row
+rebuilding-data = struct-data by.Rebuilding.the-type by.Rebuilding.Laws.the-laws by.Rebuilding.Laws.the-plain by.Rebuilding.Laws.the-copy by.Rebuilding.Laws.lowers
+
+pub rebuilding-parts : (r : Rebuilding) → Is by.Rebuilding.the-row r (rebuilding-data .val r ∷ []) → AreLows (by.Rebuilding.struct .parts) by.Rebuilding.Laws.the-laws (by.Rebuilding.struct .as-values r)
+rebuilding-parts r is = parts by.Rebuilding.struct by.Rebuilding.propositions by.Rebuilding.Laws.the-laws r _ is

@@ -14,18 +14,21 @@ use Rattle.record.proofs.Rest.{survey-whole}
 use Rattle.record.specs.Life.{free}
 use Rattle.record.specs.Survey.{surveyOf, surveyBut}
 use Rattle.record.specs.declared.Record.{Record}
+use Rattle.array.proofs.Outcomes.{rebuilding-written}
 use Rattle.array.specs.Admission.{admissionBy, admission}
 use Rattle.array.specs.Answers.{openedReply}
 use Rattle.array.specs.Collection.{collectionBy, collection}
 use Rattle.array.specs.Opening.{openingBy, opening}
-use Rattle.array.specs.Outcomes.{OpeningIs, AdmissionIs, SteppingIs, CollectionIs}
+use Rattle.array.specs.Outcomes.{OpeningIs, AdmissionIs, SteppingIs, CollectionIs, RebuildingSaid, writtenBy}
+use Rattle.array.specs.Rebuilding.{rebuildingBy, rebuilding}
 use Rattle.array.specs.Scan.{scanReplyBy, scanReply}
 use Rattle.array.specs.Stepping.{steppingBy, stepping}
 use Rattle.array.specs.declared.answers.Admission as by-admit
 use Rattle.array.specs.declared.answers.Collection as by-collect
 use Rattle.array.specs.declared.answers.Opening as by-open
+use Rattle.array.specs.declared.answers.Rebuilding as by-rebuild
 use Rattle.array.specs.declared.answers.Stepping as by-step
-use Rattle.calls.specs.Lent.{OpeningLent, AdmissionLent, SteppingLent, CollectionLent}
+use Rattle.calls.specs.Lent.{OpeningLent, AdmissionLent, SteppingLent, CollectionLent, RebuildingLent}
 
 module _ (l : List Record) where
   pub open-lent : (g : Geometry) (out : ℕ) (work image : List ℕ) (o : by-open.Opening) → OpeningIs (openingBy g out (length l) work image) o
@@ -54,3 +57,12 @@ module _ (l : List Record) where
     pub scan-lent : (image : List ℕ) (r : Scan) → (reply r ≡ scanReplyBy st (surveyBut st l 8) image) × Named r → (reply r ≡ scanReply st l image) × Named r
     unfolding scanReply
     scan-lent image r is = rw (survey-whole st l) at is
+
+    -- a rebuild step that said this, and then wrote its block
+    pub rebuild-lent : (image : List ℕ) (o : by-rebuild.Rebuilding) (m : List ℕ) → RebuildingSaid (rebuildingBy st (surveyBut st l 8) image) o
+        → m ≡ writtenBy st (o .answer) image → RebuildingLent (rebuilding st l image) (o .answer) (o .state) m
+    unfolding rebuilding
+    rebuild-lent image o m before written =
+        let said : RebuildingSaid (rebuildingBy st (surveyOf st l) image) o = rw (survey-whole st l) at before in
+        let is = rebuilding-written st (surveyOf st l) image o said m written in
+        record { reply = is .reply; answered = is .answer; state-left = is .state; image-left = is .image-left }

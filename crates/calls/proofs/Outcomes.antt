@@ -6,10 +6,12 @@ use mathlib.Core.List.{List}
 use mathlib.Core.Path.{_≡_, refl, sym, ap, ap₂, _∙_}
 use Rattle.terms.specs.Reply.{Reply}
 use Rattle.geometry.specs.Answers.{placedReply, heldReply}
+use Rattle.geometry.specs.Fill.{Starting, StartingIs}
 use Rattle.geometry.specs.Report.{Reporting, ReportingIs}
 use Rattle.geometry.specs.declared.Held.{Held}
 use Rattle.geometry.specs.declared.Placed.{Placed}
 use Rattle.geometry.specs.declared.State.{State}
+use Rattle.geometry.specs.declared.fill.Started.{Started}
 use Rattle.geometry.specs.declared.report.Reported.{Reported}
 use Rattle.geometry.proofs.Single.{placed-one, held-one}
 use Rattle.graph.specs.Asked.{actionStep}
@@ -22,7 +24,8 @@ use Rattle.record.specs.declared.Record.{Record}
 use Rattle.array.specs.Admission.{AdmissionBy, Admission}
 use Rattle.array.specs.Collection.{CollectionBy, Collection}
 use Rattle.array.specs.Opening.{OpeningBy, Opening}
-use Rattle.array.specs.Outcomes.{OpeningIs, AdmissionIs, SteppingIs, CollectionIs}
+use Rattle.array.specs.Outcomes.{OpeningIs, AdmissionIs, SteppingIs, CollectionIs, RebuildingIs}
+use Rattle.array.specs.Rebuilding.{Rebuilding}
 use Rattle.array.specs.Stepping.{SteppingBy, Stepping}
 use Rattle.array.specs.declared.answers.Admission as by-admit
 use Rattle.array.specs.declared.answers.Admitted.{Admitted}
@@ -30,9 +33,11 @@ use Rattle.array.specs.declared.answers.Collected.{Collected}
 use Rattle.array.specs.declared.answers.Collection as by-collect
 use Rattle.array.specs.declared.answers.Opened.{Opened}
 use Rattle.array.specs.declared.answers.Opening as by-open
+use Rattle.array.specs.declared.answers.Rebuilding as by-rebuild
+use Rattle.array.specs.declared.answers.Rebuilt.{Rebuilt}
 use Rattle.array.specs.declared.answers.Stepped.{Stepped}
 use Rattle.array.specs.declared.answers.Stepping as by-step
-use Rattle.calls.specs.Lent.{OpeningLent, AdmissionLent, SteppingLent, CollectionLent}
+use Rattle.calls.specs.Lent.{OpeningLent, AdmissionLent, SteppingLent, CollectionLent, RebuildingLent}
 
 -- ---- the calls, lent the table
 
@@ -52,10 +57,18 @@ module _ {d : Collection} {a b : Collected} {t u : List Record} {m n : List ℕ}
   pub collect-one : CollectionLent d a t m → CollectionLent d b u n → (a ≡ b) × (t ≡ u) × (m ≡ n)
   collect-one p q = (cc, cc, cc)
 
--- report, lent the state and by value
+module _ {d : Rebuilding} {a b : Rebuilt} {s z : State} {m n : List ℕ} where
+  pub rebuild-one : RebuildingLent d a s m → RebuildingLent d b z n → (a ≡ b) × (s ≡ z) × (m ≡ n)
+  rebuild-one p q = (cc, cc, cc)
+
+-- report and start, lent the state and by value
 module _ {d : Reporting} {a b : Reported} {s z : State} where
   pub report-one : ReportingIs d a s → ReportingIs d b z → (a ≡ b) × (s ≡ z)
   report-one p q = (cc, cc)
+
+module _ {d : Starting} {a b : Started} {s z : State} where
+  pub start-one : StartingIs d a s → StartingIs d b z → (a ≡ b) × (s ≡ z)
+  start-one p q = (cc, cc)
 
 -- a scan: of an open array, of one with nothing open, and with stripes to pass over
 module _ {r : Reply} {a b : Scan} where
@@ -86,6 +99,12 @@ module _ {d : SteppingBy} {o r : by-step.Stepping} {v w m n : List ℕ} where
 module _ {d : CollectionBy} {o r : by-collect.Collection} {m n : List ℕ} where
   pub collect-value-one : CollectionIs d o m → CollectionIs d r n → (o ≡ r) × (m ≡ n)
   collect-value-one p q = (three (λ a i x. record { answer = a; place = i; «record» = x }) (cc) (cc) (cc), cc)
+
+module _ {d : Rebuilding} {o r : by-rebuild.Rebuilding} {m n : List ℕ} where
+  pub rebuild-value-one : RebuildingIs d o m → RebuildingIs d r n → (o ≡ r) × (m ≡ n)
+  rebuild-value-one p q =
+      let made : Rebuilt → State → by-rebuild.Rebuilding = λ a s. record { answer = a; state = s } in
+      (ap₂ made (p .answer ∙ sym (q .answer)) (p .state ∙ sym (q .state)), cc)
 
 -- ---- placement, and what a step does
 

@@ -1,5 +1,5 @@
 -- What the calls that are lent the table hand back, and what they leave in all that they are lent, held to what document 01 says. (What a
--- report leaves is in geometry's specs.)
+-- report and a start leave is in geometry's specs.)
 -- Assumes nothing.
 use Prim.Native.Nat.{ℕ}
 use mathlib.Core.List.{List}
@@ -7,14 +7,16 @@ use mathlib.Core.Path.{_≡_}
 use Rattle.geometry.specs.declared.State.{State}
 use Rattle.record.specs.declared.Record.{Record}
 use Rattle.array.specs.Admission.{Admission}
-use Rattle.array.specs.Answers.{openedReply, admittedReply, steppedReply, collectedReply}
+use Rattle.array.specs.Answers.{openedReply, admittedReply, steppedReply, collectedReply, rebuiltReply}
 use Rattle.array.specs.Collection.{Collection}
 use Rattle.array.specs.Opening.{Opening}
-use Rattle.array.specs.Outcomes.{openedOf, admittedOf, steppedOf, collectedOf}
+use Rattle.array.specs.Outcomes.{openedOf, admittedOf, steppedOf, collectedOf, rebuiltOf}
+use Rattle.array.specs.Rebuilding.{Rebuilding}
 use Rattle.array.specs.Stepping.{Stepping}
 use Rattle.array.specs.declared.answers.Admitted.{Admitted}
 use Rattle.array.specs.declared.answers.Collected.{Collected}
 use Rattle.array.specs.declared.answers.Opened.{Opened}
+use Rattle.array.specs.declared.answers.Rebuilt.{Rebuilt}
 use Rattle.array.specs.declared.answers.Stepped.{Stepped}
 
 -- open: its answer, the new state, and the table
@@ -45,3 +47,10 @@ pub record CollectionLent (d : Collection) (answer : Collected) (table : List Re
   pub answered : answer ≡ collectedOf (d .reply)
   pub table-left : table ≡ d .table
   pub result-left : result ≡ d .result
+
+-- rebuild: its answer, the state and the image
+pub record RebuildingLent (d : Rebuilding) (answer : Rebuilt) (state : State) (image : List ℕ) : Type 0 where
+  pub reply : rebuiltReply answer ≡ d .reply
+  pub answered : answer ≡ rebuiltOf (d .reply)
+  pub state-left : state ≡ d .state
+  pub image-left : image ≡ d .image

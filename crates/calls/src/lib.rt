@@ -1,4 +1,4 @@
-// The calls as the caller makes them: lent the table of request records where it stands, and for a report the state.
+// The calls as the caller makes them: lent the table of request records where it stands, and for a report, a start and a rebuild the state.
 // Assumes nothing.
 ghost use mathlib.Core.Path.{_≡_};
 ghost use lib.Dec.{eqb};
@@ -6,18 +6,22 @@ ghost use Rattle.array.specs.Admission.{admission};
 ghost use Rattle.array.specs.Answers.{openedReply};
 ghost use Rattle.array.specs.Collection.{collection};
 ghost use Rattle.array.specs.Opening.{opening};
+ghost use Rattle.array.specs.Rebuilding.{rebuilding};
 ghost use Rattle.array.specs.Scan.{scanReply};
 ghost use Rattle.array.specs.Stepping.{stepping};
-ghost use Rattle.calls.specs.Lent.{OpeningLent, AdmissionLent, SteppingLent, CollectionLent};
+ghost use Rattle.calls.specs.Lent.{OpeningLent, AdmissionLent, SteppingLent, CollectionLent, RebuildingLent};
+ghost use Rattle.geometry.specs.Fill.{StartingIs, starting};
 ghost use Rattle.geometry.specs.Report.{ReportingIs, reporting};
 ghost use Rattle.parity.specs.Scan.{Named, reply};
 use array::answers::Admitted;
 use array::answers::Collected;
 use array::answers::Opened;
 use array::answers::Opening;
+use array::answers::Rebuilt;
 use array::answers::Stepped;
 use geometry::Geometry;
 use geometry::State;
+use geometry::fill::Started;
 use geometry::report::Reported;
 use parity::Scan;
 use record::Record;
@@ -101,6 +105,16 @@ pub fn report(state: &mut State, card: u64) -> Reported
     made.answer
 }
 
+// Begins a fill of the fresh card in the sleeve that is out, where the state stands.
+pub fn start(state: &mut State) -> Started
+    ensures { λ r. ⌜ StartingIs (starting (now (state .entry))) r (now (state .exit)) ⌝ }
+{
+    let old = *state;
+    let made = old.start();
+    *state = made.state;
+    made.answer
+}
+
 // Collects finished record i, which is freed: a read's units go to the front of the result buffer.
 pub fn collect(
     state: State,
@@ -124,4 +138,17 @@ pub fn scan(state: State, table: &[Record], image: &[u8]) -> Scan
 {
     let survey = surveyed(table, state, 8);
     array::scan_by(state, survey, image)
+}
+
+// Fills the stripe at the fill place on the fresh card, and moves the fill on where the state stands.
+pub fn rebuild(state: &mut State, table: &[Record], image: &mut [u8]) -> Rebuilt
+    ensures { λ r. ⌜ RebuildingLent (rebuilding (now (state .entry)) (now (table .entry)) (now (image .entry))) r (now (state .exit)) (now (image .exit)) ⌝ }
+{
+    let old = *state;
+    let survey = surveyed(table, old, 8);
+    let made = array::rebuild_next(old, survey, image);
+    *state = made.state;
+    let answer = made.answer;
+    array::rebuild_image(old, answer, image);
+    answer
 }

@@ -15,17 +15,20 @@ use denote.Triple.Clauses.{Clauses, Ended, Lasts, atExit}
 use denote.Triple.Entry.{Args, Res}
 use prog.Model.{Model}
 use prog.Wp.{Heap}
+use Rattle.geometry.specs.Fill.{startedReply}
 use Rattle.geometry.specs.Report.{reportedReply}
 use Rattle.geometry.specs.declared.State.{State}
 use Rattle.parity.specs.Scan.{reply, idleScanReply}
 use Rattle.record.specs.declared.Record.{Record}
-use Rattle.array.specs.Answers.{openedReply, admittedReply, steppedReply, collectedReply}
+use Rattle.array.specs.Answers.{openedReply, admittedReply, steppedReply, collectedReply, rebuiltReply}
 use Rattle.calls.proofs.open as opens
 use Rattle.calls.proofs.admit as admit
 use Rattle.calls.proofs.step as step
 use Rattle.calls.proofs.report as report
 use Rattle.calls.proofs.collect as collect
 use Rattle.calls.proofs.scan as scan
+use Rattle.calls.proofs.start as start
+use Rattle.calls.proofs.rebuild as rebuild
 use Rattle.recorder.proofs.coppicetune_scan as idle
 use Rattle.recorder.proofs.engine.coppicetune_open as c-open
 use Rattle.recorder.proofs.engine.coppicetune_admit as c-admit
@@ -33,6 +36,8 @@ use Rattle.recorder.proofs.engine.coppicetune_step as c-step
 use Rattle.recorder.proofs.engine.coppicetune_report as c-report
 use Rattle.recorder.proofs.engine.coppicetune_collect as c-collect
 use Rattle.recorder.proofs.engine.coppicetune_check as c-check
+use Rattle.recorder.proofs.engine.coppicetune_start as c-start
+use Rattle.recorder.proofs.engine.coppicetune_rebuild as c-rebuild
 use Rattle.recorder.specs.Packing.{packed}
 use Rattle.history.specs.World.{World}
 use Rattle.history.specs.World as event
@@ -78,6 +83,14 @@ module _ {M : Type 1} (𝓤 : URA M) (H : Heap 𝓤) (𝓜 : Model 𝓤 H) (𝓖
       (work : List ℕ) → ByCalls (lent state (table .now) work (image .now)) event.scan (left (reply r) state (table .now) work (image .now) []))
   scan-cited κs a ws r g = fact-mono 𝓤 _ _ (λ h work. call.scans _ h)
 
+  pub start-cited : Says start.ended (start.clauses 𝓤 H (𝓖 .A) (𝓜 .mem) (𝓡 .run)) (λ κs (state, _) (state′, _) r.
+      (table : List Record) (work image : List ℕ) → ByCalls (lent (state .now) table work image) event.start (left (startedReply r) state′ table work image []))
+  start-cited κs a ws r g = fact-mono 𝓤 _ _ (λ h table work image. call.starts _ _ h)
+
+  pub rebuild-cited : Says rebuild.ended (rebuild.clauses 𝓤 H (𝓖 .A) (𝓜 .mem) (𝓡 .run)) (λ κs (state, (table, (image, _))) (state′, (_, (image′, _))) r.
+      (work : List ℕ) → ByCalls (lent (state .now) (table .now) work (image .now)) event.rebuild (left (rebuiltReply r) state′ (table .now) work image′ []))
+  rebuild-cited κs a ws r g = fact-mono 𝓤 _ _ (λ h work. call.rebuilds _ _ _ h)
+
   -- ---- the C functions
 
   pub c-open-cited : Says c-open.ended (c-open.clauses 𝓤 H (𝓖 .A) (𝓜 .mem) (𝓡 .run)) (λ κs (state, (table, (work, (image, (cards, (stripes, (block, (records, (out, _))))))))) (state′, (table′, (_, (_, (_, (_, (_, (_, (_, _))))))))) r.
@@ -105,8 +118,16 @@ module _ {M : Type 1} (𝓤 : URA M) (H : Heap 𝓤) (𝓜 : Model 𝓤 H) (𝓖
       (work : List ℕ) → ByFunctions (lent (state .now) (table .now) work (image .now)) event.scan (left (unpacked r) (state .now) (table .now) work (image .now) []))
   c-check-cited κs a ws r g = fact-mono 𝓤 _ _ (λ h work. function.checks _ h)
 
+  pub c-start-cited : Says c-start.ended (c-start.clauses 𝓤 H (𝓖 .A) (𝓜 .mem) (𝓡 .run)) (λ κs (state, _) (state′, _) r.
+      (table : List Record) (work image : List ℕ) → ByFunctions (lent (state .now) table work image) event.start (left (unpacked r) state′ table work image []))
+  c-start-cited κs a ws r g = fact-mono 𝓤 _ _ (λ h table work image. function.starts _ _ h)
+
+  pub c-rebuild-cited : Says c-rebuild.ended (c-rebuild.clauses 𝓤 H (𝓖 .A) (𝓜 .mem) (𝓡 .run)) (λ κs (state, (table, (image, _))) (state′, (_, (image′, _))) r.
+      (work : List ℕ) → ByFunctions (lent (state .now) (table .now) work (image .now)) event.rebuild (left (unpacked r) state′ (table .now) work image′ []))
+  c-rebuild-cited κs a ws r g = fact-mono 𝓤 _ _ (λ h work. function.rebuilds _ _ _ h)
+
   -- ---- the scan of an array with nothing open
 
-  pub idle-cited : Says idle.ended (idle.clauses 𝓤 H (𝓖 .A) (𝓜 .mem) (𝓡 .run)) (λ κs (cards, (stripes, (block, (records, (out, (lost, (image, _))))))) (_, (_, (_, (_, (_, (_, (_, _))))))) r.
-      r ≡ packed (idleScanReply (record { cards = cards; stripes = stripes; block = block; records = records; out = out; lost = lost }) (image .now)))
+  pub idle-cited : Says idle.ended (idle.clauses 𝓤 H (𝓖 .A) (𝓜 .mem) (𝓡 .run)) (λ κs (cards, (stripes, (block, (records, (out, (lost, (fill, (image, _)))))))) (_, (_, (_, (_, (_, (_, (_, (_, _)))))))) r.
+      r ≡ packed (idleScanReply (record { cards = cards; stripes = stripes; block = block; records = records; out = out; lost = lost; fill = fill }) (image .now)))
   idle-cited κs a ws r g = fact-mono 𝓤 _ _ (λ h. h)

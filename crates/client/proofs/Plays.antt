@@ -8,7 +8,7 @@ use Rattle.geometry.specs.declared.Geometry.{Geometry}
 use Rattle.geometry.specs.declared.State.{State}
 use Rattle.record.specs.declared.Record.{Record}
 use Rattle.array.specs.Opening.{Opening, opening}
-use Rattle.recorder.proofs.Room.{open-room, admit-room, step-room, report-room, collect-room, scan-room}
+use Rattle.recorder.proofs.Room.{open-room, admit-room, step-room, report-room, start-room, collect-room, scan-room, rebuild-room}
 use Rattle.recorder.proofs.Unpacking.{unpacked as unpacks}
 use Rattle.recorder.specs.Packing.{packed, Roomy}
 use Rattle.history.specs.World.{World, Event, Outcome, play}
@@ -40,6 +40,8 @@ call-plays (call.steps i k answer table work image h) = parts left (h .reply) re
 call-plays (call.reports c answer state h) = parts left (h .reply) (h .state-left) refl refl refl refl
 call-plays (call.collects i result answer table result′ h) = parts left (h .reply) refl (h .table-left) refl refl (h .result-left)
 call-plays (call.scans answer h) = parts left (h .0) refl refl refl refl refl
+call-plays (call.starts answer state h) = parts left (h .reply) (h .state-left) refl refl refl refl
+call-plays (call.rebuilds answer state image h) = parts left (h .reply) (h .state-left) refl refl (h .image-left) refl
 
 -- an answer that is packed is read as the reply
 module _ {r : Reply} {answer : ℕ} (room : Roomy r) where
@@ -56,6 +58,9 @@ function-plays (function.reports c answer state h) = parts left (read (report-ro
 function-plays (function.collects i result answer table result′ h) =
     parts left (read (collect-room _ _ _ _ _) (h .answered)) refl (h .table-left) refl refl (h .result-left)
 function-plays (function.checks answer h) = parts left (read (scan-room _ _ _) h) refl refl refl refl refl
+function-plays (function.starts answer state h) = parts left (read (start-room _) (h .answered)) (h .state-left) refl refl refl refl
+function-plays (function.rebuilds answer state image h) =
+    parts left (read (rebuild-room _ _ _) (h .answered)) (h .state-left) refl refl (h .image-left) refl
 
 -- ---- the opening
 

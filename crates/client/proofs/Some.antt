@@ -7,14 +7,16 @@ use mathlib.Core.List.{List, []}
 use mathlib.Core.Path.{refl, subst}
 use lib.Dec.{eqb}
 use Rattle.terms.specs.Reply.{Reply}
+use Rattle.geometry.specs.Fill.{starting}
 use Rattle.geometry.specs.Report.{reporting}
 use Rattle.array.specs.Admission.{admission}
 use Rattle.array.specs.Collection.{collection}
+use Rattle.array.specs.Rebuilding.{rebuilding}
 use Rattle.array.specs.Scan.{scanReply}
 use Rattle.array.specs.Stepping.{stepping}
-use Rattle.recorder.proofs.Room.{admit-room, step-room, report-room, collect-room, scan-room}
+use Rattle.recorder.proofs.Room.{admit-room, step-room, report-room, start-room, collect-room, scan-room, rebuild-room}
 use Rattle.recorder.specs.Packing.{packed, Roomy}
-use Rattle.history.specs.World.{World, Event, admit, step, report, collect, scan, Outcome, play}
+use Rattle.history.specs.World.{World, Event, admit, step, report, collect, scan, start, rebuild, Outcome, play}
 use Rattle.client.specs.Lent.{left}
 use Rattle.client.specs.Packed.{unpacked, ByFunctions}
 use Rattle.client.specs.Packed as function
@@ -54,6 +56,14 @@ module _ (w : World) where
   meets scan =
       read (λ r. left r (w .state) (w .table) (w .work) (w .image) []) (scanReply (w .state) (w .table) (w .image)) (scan-room _ _ _)
       (function.checks _ refl)
+  meets start =
+      let d = starting (w .state) in
+      read (λ r. left r (d .state) (w .table) (w .work) (w .image) []) (d .reply) (start-room _)
+      (function.starts _ _ (record { answered = refl; state-left = refl }))
+  meets rebuild =
+      let d = rebuilding (w .state) (w .table) (w .image) in
+      read (λ r. left r (d .state) (w .table) (w .work) (d .image) []) (d .reply) (rebuild-room _ _ _)
+      (function.rebuilds _ _ _ (record { answered = refl; state-left = refl; image-left = refl }))
 
 pub functions-answer : Meets functions play
 unfolding Meets

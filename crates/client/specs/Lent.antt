@@ -6,25 +6,29 @@ use mathlib.Core.Bool.{Bool}
 use mathlib.Core.List.{List, []}
 use mathlib.Core.Path.{_≡_}
 use Rattle.terms.specs.Reply.{Reply}
+use Rattle.geometry.specs.Fill.{StartingIs, starting, startedReply}
 use Rattle.geometry.specs.Report.{ReportingIs, reporting, reportedReply}
 use Rattle.geometry.specs.declared.Geometry.{Geometry}
 use Rattle.geometry.specs.declared.State.{State}
+use Rattle.geometry.specs.declared.fill.Started.{Started}
 use Rattle.geometry.specs.declared.report.Reported.{Reported}
 use Rattle.parity.specs.Scan.{Named, reply}
 use Rattle.parity.specs.declared.Scan.{Scan}
 use Rattle.record.specs.declared.Record.{Record}
 use Rattle.array.specs.Admission.{admission}
-use Rattle.array.specs.Answers.{openedReply, admittedReply, steppedReply, collectedReply}
+use Rattle.array.specs.Answers.{openedReply, admittedReply, steppedReply, collectedReply, rebuiltReply}
 use Rattle.array.specs.Collection.{collection}
 use Rattle.array.specs.Opening.{Opening, opening}
+use Rattle.array.specs.Rebuilding.{rebuilding}
 use Rattle.array.specs.Scan.{scanReply}
 use Rattle.array.specs.Stepping.{stepping}
 use Rattle.array.specs.declared.answers.Admitted.{Admitted}
 use Rattle.array.specs.declared.answers.Collected.{Collected}
 use Rattle.array.specs.declared.answers.Opened.{Opened}
+use Rattle.array.specs.declared.answers.Rebuilt.{Rebuilt}
 use Rattle.array.specs.declared.answers.Stepped.{Stepped}
-use Rattle.calls.specs.Lent.{OpeningLent, AdmissionLent, SteppingLent, CollectionLent}
-use Rattle.history.specs.World.{World, Event, admit, step, report, collect, scan, Outcome}
+use Rattle.calls.specs.Lent.{OpeningLent, AdmissionLent, SteppingLent, CollectionLent, RebuildingLent}
+use Rattle.history.specs.World.{World, Event, admit, step, report, collect, scan, start, rebuild, Outcome}
 
 -- an outcome: the reply, what is left in the state, the table, the work store and the image, and in the result buffer where one is lent
 abbrev pub left : Reply → State → List Record → List ℕ → List ℕ → List ℕ → Outcome
@@ -52,3 +56,7 @@ pub data ByCalls (w : World) : Event → Outcome → Type 0 where
       → ByCalls w (collect i result) (left (collectedReply answer) (w .state) table (w .work) (w .image) result′)
   scans : (answer : Scan) → (reply answer ≡ scanReply (w .state) (w .table) (w .image)) × Named answer
       → ByCalls w scan (left (reply answer) (w .state) (w .table) (w .work) (w .image) [])
+  starts : (answer : Started) (state : State) → StartingIs (starting (w .state)) answer state
+      → ByCalls w start (left (startedReply answer) state (w .table) (w .work) (w .image) [])
+  rebuilds : (answer : Rebuilt) (state : State) (image : List ℕ) → RebuildingLent (rebuilding (w .state) (w .table) (w .image)) answer state image
+      → ByCalls w rebuild (left (rebuiltReply answer) state (w .table) (w .work) image [])

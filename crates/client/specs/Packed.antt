@@ -7,6 +7,7 @@ use mathlib.Core.List.{List, []}
 use mathlib.Core.Path.{_≡_}
 use lib.Dec.{eqb}
 use Rattle.terms.specs.Reply.{Reply}
+use Rattle.geometry.specs.Fill.{starting}
 use Rattle.geometry.specs.Report.{reporting}
 use Rattle.geometry.specs.declared.Geometry.{Geometry}
 use Rattle.geometry.specs.declared.State.{State}
@@ -14,11 +15,12 @@ use Rattle.record.specs.declared.Record.{Record}
 use Rattle.array.specs.Admission.{admission}
 use Rattle.array.specs.Collection.{collection}
 use Rattle.array.specs.Opening.{Opening, opening}
+use Rattle.array.specs.Rebuilding.{rebuilding}
 use Rattle.array.specs.Scan.{scanReply}
 use Rattle.array.specs.Stepping.{stepping}
-use Rattle.recorder.specs.Engine.{OpeningPacked, AdmissionPacked, SteppingPacked, ReportingPacked, CollectionPacked}
+use Rattle.recorder.specs.Engine.{OpeningPacked, AdmissionPacked, SteppingPacked, ReportingPacked, StartingPacked, CollectionPacked, RebuildingPacked}
 use Rattle.recorder.specs.Packing.{packed}
-use Rattle.history.specs.World.{World, Event, admit, step, report, collect, scan, Outcome}
+use Rattle.history.specs.World.{World, Event, admit, step, report, collect, scan, start, rebuild, Outcome}
 use Rattle.client.specs.Lent.{left}
 
 -- a packed answer as it is read: the number in the low 16 bits, the first value in the next 16, the second in the rest
@@ -45,3 +47,7 @@ pub data ByFunctions (w : World) : Event → Outcome → Type 0 where
       → ByFunctions w (collect i result) (left (unpacked answer) (w .state) table (w .work) (w .image) result′)
   checks : (answer : ℕ) → answer ≡ packed (scanReply (w .state) (w .table) (w .image))
       → ByFunctions w scan (left (unpacked answer) (w .state) (w .table) (w .work) (w .image) [])
+  starts : (answer : ℕ) (state : State) → StartingPacked (starting (w .state)) answer state
+      → ByFunctions w start (left (unpacked answer) state (w .table) (w .work) (w .image) [])
+  rebuilds : (answer : ℕ) (state : State) (image : List ℕ) → RebuildingPacked (rebuilding (w .state) (w .table) (w .image)) answer state image
+      → ByFunctions w rebuild (left (unpacked answer) state (w .table) (w .work) image [])

@@ -7,17 +7,10 @@ use mathlib.Core.Path.{_≡_}
 use lib.Dec.{eqb}
 use lib.ListN.{length}
 use borrow.Author.Tests.{eqb-true, not-false}
-use Rattle.geometry.specs.Limits.{beyondState, geometryOf}
 use Rattle.geometry.specs.Store.{imageSize, workSize, imageWrong, workWrong}
 use Rattle.geometry.specs.declared.State.{State}
-use Rattle.geometry.proofs.Asked.{BoundsOf}
-use Rattle.geometry.proofs.Bounds.{within-limits}
 
 module _ (st : State) where
-  -- what refusal 1 leaves, of a state
-  pub state-bounds : beyondState st ≡ false → BoundsOf st
-  state-bounds e = within-limits (geometryOf st) (st .out) e
-
   module _ (l : List ℕ) where
     -- what refusal 2 leaves
     pub image-length : imageWrong st l ≡ false → length l ≡ imageSize (st .cards) (st .stripes) (st .block)

@@ -9,6 +9,8 @@ pub mod Single
 pub mod Grid
 pub mod Apart
 pub mod Bounds
+pub mod States
+pub mod StateRows
 pub mod Asked
 pub mod Lengths
 pub mod Flags

@@ -6,3 +6,4 @@ pub mod Answers
 pub mod Store
 pub mod Asked
 pub mod Report
+pub mod Fill

@@ -27,9 +27,21 @@ beyond g out = not (legal (g .cards) (g .stripes) (g .block) (g .records) && leg
 abbrev pub geometryOf : State → Geometry
 geometryOf st = record { cards = st .cards; stripes = st .stripes; block = st .block; records = st .records }
 
--- refusal 1, of a state
-abbrev pub beyondState : State → Bool
-beyondState st = beyond (geometryOf st) (st .out)
+-- the number that says that no fill is under way
+abbrev pub noFill : ℕ
+noFill = 65535
+
+-- a fill is under way: a fresh card is in the sleeve of the one that is out, and is filled stripe by stripe
+abbrev pub underWay : State → Bool
+underWay st = not (eqb (st .fill) noFill)
+
+-- the fill place, the stripe to be filled next: 65,535, or below S where a card is out
+unfoldable pub legalFill : ℕ → ℕ → ℕ → Bool
+legalFill S out fill = eqb fill noFill || (ltb fill S && not (eqb out none))
+
+-- refusal 1, of a state: also where its fill place is not legal
+unfoldable pub beyondState : State → Bool
+beyondState st = beyond (geometryOf st) (st .out) || not (legalFill (st .stripes) (st .out) (st .fill))
 
 -- refusal 4: the array is lost
 abbrev pub isLost : State → Bool

@@ -2,9 +2,10 @@
 -- parity, n = N-1.
 -- Assumes nothing.
 use Prim.Native.Nat.{ℕ, _+_, _-_, _*_, _/_, _%_, _<_}
-use mathlib.Core.Bool.{cond}
+use mathlib.Core.Bool.{Bool, cond, _&&_}
 use mathlib.Core.Path.{_≡_}
 use lib.Dec.{ltb}
+use Rattle.geometry.specs.Limits.{none, underWay}
 use Rattle.geometry.specs.declared.State.{State}
 
 -- stripe s has its parity on card p = N-1-(s mod N)
@@ -45,9 +46,13 @@ positionOfCard st = positionOf (st .cards)
 abbrev pub cardOfBlock : State → ℕ → ℕ
 cardOfBlock st = cardOf (st .cards)
 
--- the card that is missing in a stripe, or 255: the card that is out
+-- a stripe below the fill place is filled
+unfoldable pub filled : State → ℕ → Bool
+filled st s = underWay st && ltb s (st .fill)
+
+-- the card that is missing in a stripe, or 255: the card that is out, and none where the stripe is filled
 unfoldable pub outIn : State → ℕ → ℕ
-outIn st s = st .out
+outIn st s = cond (filled st s) none (st .out)
 
 -- card c's block is missing in stripe s: a relation, so that nothing above rests on there being one such card at most
 pub record Missing (st : State) (c s : ℕ) : Type 0 where

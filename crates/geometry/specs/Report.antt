@@ -1,27 +1,28 @@
 -- Document 01, "What the calls do", report: what it answers and the state that it leaves.
 -- Assumes nothing.
 use Prim.Native.Nat.{ℕ}
-use mathlib.Core.Bool.{cond}
-use mathlib.Core.List.{[], _∷_}
+use mathlib.Core.Bool.{cond, not, _&&_}
+use mathlib.Core.List.{List, [], _∷_, _++_}
 use mathlib.Core.Path.{_≡_}
 use lib.Dec.{leb, eqb}
-use Rattle.terms.specs.Reply.{Reply, accepted, refused, row, firstRow, onAccept}
-use Rattle.geometry.specs.Limits.{none, beyondState, isLost}
+use Rattle.terms.specs.Reply.{Reply, accepted, refused, Row, row, firstRow, onAccept}
+use Rattle.geometry.specs.Limits.{none, noFill, underWay, beyondState, isLost}
 use Rattle.geometry.specs.declared.report.Reported.{Reported}
 use Rattle.geometry.specs.declared.report.Reported.the-variants.{Marked, Refused}
 use Rattle.geometry.specs.declared.State.{State}
 
--- report: 1, 4, 5, 12; it is lent the state alone
-unfoldable pub reportRefusal : State → ℕ → ℕ
-reportRefusal st c =
-    firstRow
-    (row (beyondState st) 1
-    ∷ row (isLost st) 4
-    ∷ row (leb (st .cards) c) 5
-    ∷ row (eqb c (st .out)) 12
-    ∷ [])
+-- what every call that is lent the state alone begins with, refusals 1 and 4
+unfoldable pub stateRows : State → List Row
+stateRows st = row (beyondState st) 1 ∷ row (isLost st) 4 ∷ []
 
--- the state with card c out
+-- report: 1, 4, 5, 12. The card that is out already gives 12 where no fill is under way
+unfoldable pub reportRows : State → ℕ → List Row
+reportRows st c = row (leb (st .cards) c) 5 ∷ row (eqb c (st .out) && not (underWay st)) 12 ∷ []
+
+unfoldable pub reportRefusal : State → ℕ → ℕ
+reportRefusal st c = firstRow (stateRows st ++ reportRows st c)
+
+-- the state with card c out, or none
 abbrev pub withOut : State → ℕ → State
 withOut st c =
     record {
@@ -31,6 +32,7 @@ withOut st c =
       records = st .records;
       out = c;
       lost = st .lost;
+      fill = st .fill;
     }
 
 -- the state with the mark of a lost array; the first card stays the card out
@@ -43,11 +45,26 @@ withLost st =
       records = st .records;
       out = st .out;
       lost = 1;
+      fill = st .fill;
     }
 
--- the first card that is reported is out; a second, different one loses the array
+-- the state with another fill place
+abbrev pub withFill : State → ℕ → State
+withFill st s =
+    record {
+      cards = st .cards;
+      stripes = st .stripes;
+      block = st .block;
+      records = st .records;
+      out = st .out;
+      lost = st .lost;
+      fill = s;
+    }
+
+-- the first card that is reported is out; a fresh card that is reported ends its fill, and is out in all stripes; a second, different one loses the
+-- array
 unfoldable pub marked : State → ℕ → State
-marked st c = cond (eqb (st .out) none) (withOut st c) (withLost st)
+marked st c = cond (eqb (st .out) none) (withOut st c) (cond (eqb c (st .out)) (withFill st noFill) (withLost st))
 
 -- what report answers, and the state that it leaves
 pub record Reporting : Type 0 where

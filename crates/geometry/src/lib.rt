@@ -1,11 +1,13 @@
 // The array's shape: its numbers by value, their limits, placement both ways, and where blocks stand.
 // Assumes nothing.
+pub use limits::NO_FILL;
 pub use limits::NO_STRIPE;
 pub use limits::NONE;
 pub use limits::legal;
 pub use placement::card_at;
 pub use placement::missing_at;
 
+pub mod fill;
 mod limits;
 mod parts;
 mod placement;
@@ -21,7 +23,8 @@ pub struct Geometry {
     pub records: u64,
 }
 
-// An open array: its geometry, the card that is out (255: none), and the mark of a lost array (0: not lost).
+// An open array: its geometry, the card that is out (255: none), the mark of a lost array (0: not lost), and the fill place, the stripe of the fresh
+// card in that sleeve that is filled next (65,535: no fill is under way).
 #[repr(C)]
 pub struct State {
     pub cards: u64,
@@ -30,6 +33,7 @@ pub struct State {
     pub records: u64,
     pub out: u64,
     pub lost: u64,
+    pub fill: u64,
 }
 
 // Where a block is: its card and its stripe, or what was refused.

@@ -2,12 +2,15 @@
 // Assumes nothing.
 ghost use mathlib.Core.Path.{_≡_};
 ghost use Rattle.terms.specs.Sets.{within};
-ghost use Rattle.geometry.specs.Limits.{legal, beyond, geometryOf, beyondState, isLost};
+ghost use Rattle.geometry.specs.Limits.{legal, beyond, geometryOf, legalFill, beyondState, isLost};
 use crate::Geometry;
 use crate::State;
 
 // The number that says that no card is out.
 pub const NONE: u64 = 255;
+
+// The number that says that no fill is under way.
+pub const NO_FILL: u64 = 65535;
 
 // A number that is no stripe's.
 pub const NO_STRIPE: u64 = 1024;
@@ -39,6 +42,19 @@ pub fn legal(cards: u64, stripes: u64, block: u64, records: u64) -> bool
         return false;
     }
     within(1, 8, records)
+}
+
+// Whether a fill place is 65,535, or one of S stripes with a card out.
+fn legal_fill(stripes: u64, out: u64, fill: u64) -> bool
+    ensures { λ r. ⌜ r ≡ legalFill stripes out fill ⌝ }
+{
+    if fill == NO_FILL {
+        return true;
+    }
+    if fill >= stripes {
+        return false;
+    }
+    out != NONE
 }
 
 impl Geometry {
@@ -73,7 +89,10 @@ impl State {
     pub fn beyond(self) -> bool
         ensures { λ r. ⌜ r ≡ beyondState self ⌝ }
     {
-        self.geometry().beyond(self.out)
+        if self.geometry().beyond(self.out) {
+            return true;
+        }
+        !legal_fill(self.stripes, self.out, self.fill)
     }
 
     // Refusal 4: whether the array is lost.

@@ -5,6 +5,7 @@ ghost use Rattle.geometry.specs.Placement.{cardIn, missingAt, outIn};
 ghost use Rattle.geometry.specs.Answers.{placesOf, beyondPlaces, placedReply, placeReply, heldReply, blockAtReply};
 use crate::Geometry;
 use crate::Held;
+use crate::NO_FILL;
 use crate::NONE;
 use crate::Placed;
 use crate::State;
@@ -39,10 +40,16 @@ pub fn missing_at(cards: u64, stripe: u64, card: u64) -> u64
 }
 
 impl State {
-    // The card that is missing in a stripe, or 255.
+    // The card that is missing in a stripe, or 255: none is where the stripe is filled.
     pub fn out_in(self, stripe: u64) -> u64
         ensures { λ r. ⌜ r ≡ outIn self stripe ⌝ }
     {
+        if self.fill == NO_FILL {
+            return self.out;
+        }
+        if stripe < self.fill {
+            return NONE;
+        }
         self.out
     }
 

@@ -20,7 +20,7 @@ fn offset(row: u64, width: u64, column: u64, block: u64) -> usize
 
 impl State {
     // Whether a card has a block in a stripe.
-    pub(crate) fn in_image(self, card: u64, stripe: u64) -> bool
+    pub fn in_image(self, card: u64, stripe: u64) -> bool
         ensures { λ r. ⌜ r ≡ inImage self card stripe ⌝ }
     {
         if !legal(self.cards, self.stripes, self.block, self.records) {

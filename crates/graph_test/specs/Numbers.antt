@@ -29,7 +29,7 @@ placeOf xr = 0
 placeOf (wr p) = p
 placeOf nil = 0
 
--- the state of six numbers, the record of the eight numbers from 8·i on, the table of all whole records
+-- the state of seven numbers, the record of the eight numbers from 8·i on, the table of all whole records
 unfoldable pub stateFrom : List ℕ → State
 stateFrom l =
     record {
@@ -39,6 +39,7 @@ stateFrom l =
       records = getD l 3 0;
       out = getD l 4 0;
       lost = getD l 5 0;
+      fill = getD l 6 0;
     }
 
 unfoldable pub recordFrom : List ℕ → ℕ → Record

@@ -1,4 +1,4 @@
-// Tables, as slices of numbers: a state is six numbers, and zeros where the slice is too short; a record is eight.
+// Tables, as slices of numbers: a state is seven numbers, and zeros where the slice is too short; a record is eight.
 ghost use mathlib.Core.Path.{_≡_};
 ghost use Prim.Native.Nat.{_+_, _*_, _≤_};
 ghost use lib.ListN.{length, getD};
@@ -28,6 +28,7 @@ fn state(numbers: &[u64]) -> State
         records: at(numbers, 3),
         out: at(numbers, 4),
         lost: at(numbers, 5),
+        fill: at(numbers, 6),
     }
 }
 

@@ -9,13 +9,16 @@ use native.Mathlib.Omega.{arith}
 use borrow.Author.Tests.{eqb-true, eqb-false}
 use lib.Dec.{eqb}
 use Rattle.terms.specs.Reply.{refused}
-use Rattle.terms.proofs.Rows.{truth}
-use Rattle.geometry.proofs.Bounds.{within-limits}
-use Rattle.geometry.specs.Limits.{geometryOf, none, beyondState}
-use Rattle.geometry.proofs.Missing.{out-none, out-lost, none-missing}
-use Rattle.geometry.specs.Report.{marked, withOut, withLost}
+use Rattle.terms.proofs.Rows.{or-false-left, truth}
+use Rattle.geometry.proofs.Lengths.{image-length}
+use Rattle.geometry.proofs.States.{state-bounds, state-filling, moved-geometry}
+use Rattle.geometry.specs.Fill.{movedOn}
+use Rattle.geometry.specs.Limits.{none, noFill, beyondState}
+use Rattle.geometry.proofs.Missing.{out-none, out-lost, out-moved, none-missing, missing-ended, fill-missing}
+use Rattle.geometry.specs.Report.{marked, withOut, withLost, withFill}
 use Rattle.geometry.specs.declared.State.{State}
 use Rattle.graph.specs.Steps.{stepOf}
+use Rattle.parity.specs.Rest.{restored}
 use Rattle.record.specs.Life.{unitsOf, chosenAt, missingIn}
 use Rattle.record.specs.declared.Record.{Record}
 use Rattle.array.proofs.Steppings.{Ready}
@@ -25,15 +28,16 @@ use Rattle.array.specs.Stepping.{meetsOut}
 use Rattle.stripe.proofs.Readied.{readied}
 use Rattle.history.specs.Answers.{answerTo, Alike}
 use Rattle.history.specs.History.{Decayed}
-use Rattle.history.specs.World.{World, Event, admit, step, report, collect, scan, Outcome, play, recordAt}
+use Rattle.history.specs.World.{World, Event, admit, step, report, collect, scan, start, rebuild, Outcome, play, recordAt}
 use Rattle.history.proofs.Calls.{work-same, image-same}
 use Rattle.history.proofs.Facts.{bounds, open-fits}
+use Rattle.history.proofs.FillsAlike.{started-same, restored-same}
 use Rattle.geometry.proofs.Placing.{placed-in}
-use Rattle.history.proofs.Replies.{admit-taken, step-tests, step-afresh, step-done, report-tests, report-taken, admit-left, step-left, refused-leaves}
+use Rattle.history.proofs.Replies.{admit-taken, step-tests, step-afresh, step-done, report-tests, report-taken, start-tests, start-taken, rebuild-tests, rebuild-taken, rebuild-left, admit-left, step-left, refused-leaves}
 use Rattle.history.proofs.Scans.{scan-same}
 use Rattle.history.proofs.Step.{kind-within}
 use Rattle.record.proofs.Clauses.{Fit}
-use Rattle.history.proofs.Unseen.{admit-same, step-same}
+use Rattle.history.proofs.Unseen.{admit-same, step-same, rebuild-same}
 
 -- ---- images that agree on the cards that work
 
@@ -71,6 +75,12 @@ module _ (w : World) (image′ : List ℕ) (same : Decayed (w .state) (w .image)
   differing : (st : State) (table : List Record) (work l l′ : List ℕ) → Decayed st l l′ → Differing st table work l l′
   differing st table work l l′ d = record { same-state = refl; same-table = refl; same-work = refl; same-image = d }
 
+  -- a call that both refuse, by the same number: both worlds are left
+  left-both : (e : Event) (k m : ℕ) → m ≡ k → play w e ≡ record { reply = refused k; world = w; result = [] }
+      → play v e ≡ record { reply = refused m; world = v; result = [] } → Both e
+  left-both e k m same-number p q =
+      rw (p, q) (ap (λ (n : ℕ). record { reply = refused n; result = [] }) same-number, here)
+
   admit-both : (write : Bool) (s mask : ℕ) (payload : List ℕ) → Both (admit write s mask payload)
   admit-both write s mask payload = go (truth (eqb number 0))
     where
@@ -86,12 +96,8 @@ module _ (w : World) (image′ : List ℕ) (same : Decayed (w .state) (w .image)
           rw (admit-taken w write s mask payload ok, admit-taken v write s mask payload (also ∙ ok))
           (refl, differing _ _ _ (w .image) image′ same)
       go (inr e) =
-          let d = eqb-false number 0 e in (
-            ap (λ (o : Outcome). record { reply = o .reply; result = o .result }) (admit-left v write s mask payload (λ z. d (sym also ∙ z)))
-                ∙ ap (λ (m : ℕ). record { reply = refused m; result = [] }) also
-                ∙ sym (ap (λ (o : Outcome). record { reply = o .reply; result = o .result }) (admit-left w write s mask payload d)),
-            rw (refused-leaves w (admit write s mask payload) d, refused-leaves v (admit write s mask payload) (λ z. d (sym also ∙ z))) here,
-          )
+          let d = eqb-false number 0 e in
+          left-both (admit write s mask payload) _ _ also (admit-left w write s mask payload d) (admit-left v write s mask payload (λ z. d (sym also ∙ z)))
 
   collect-both : (i : ℕ) (result : List ℕ) → Both (collect i result)
   unfolding play
@@ -111,7 +117,16 @@ module _ (w : World) (image′ : List ℕ) (same : Decayed (w .state) (w .image)
         same-length = same .same-length;
         same-bytes = λ d s b hd hs hb works.
             same .same-bytes d s b hd hs hb
-            (none-missing (w .state) d s (omega (arith, out-none (w .state) s o, within-limits (geometryOf (w .state)) (w .state .out) limits .cards-high)));
+            (none-missing (w .state) d s (omega (arith, out-none (w .state) s o, state-bounds (w .state) limits .cards-high)));
+      }
+
+  -- a block that is not missing when the fill is over was not missing before
+  ended-same : beyondState (w .state) ≡ false → Decayed (withFill (w .state) noFill) (w .image) image′
+  ended-same limits =
+      record {
+        same-length = same .same-length;
+        same-bytes = λ d s b hd hs hb works.
+            same .same-bytes d s b hd hs hb (λ m. works (missing-ended (w .state) (omega (arith, state-bounds (w .state) limits .cards-high)) d s m));
       }
 
   lost-same : Decayed (withLost (w .state)) (w .image) image′
@@ -131,19 +146,64 @@ module _ (w : World) (image′ : List ℕ) (same : Decayed (w .state) (w .image)
       also : play v (report c) .reply .number ≡ number
       also = unfold play in refl
 
-      marked-same : beyondState (w .state) ≡ false → (o : Bool) → eqb (w .state .out) none ≡ o
-          → Decayed (cond o (withOut (w .state) c) (withLost (w .state))) (w .image) image′
-      marked-same limits true o = out-same c limits (eqb-true (w .state .out) none o)
-      marked-same limits false o = lost-same
+      marked-same : beyondState (w .state) ≡ false → (o : Bool) → eqb (w .state .out) none ≡ o → (p : Bool)
+          → Decayed (cond o (withOut (w .state) c) (cond p (withFill (w .state) noFill) (withLost (w .state)))) (w .image) image′
+      marked-same limits true o p = out-same c limits (eqb-true (w .state .out) none o)
+      marked-same limits false o true = ended-same limits
+      marked-same limits false o false = lost-same
 
       go : (eqb number 0 ≡ true) ⊎ (eqb number 0 ≡ false) → Alike (play w (report c) .world) (play v (report c) .world)
       go (inl e) =
           let ok = eqb-true number 0 e in
           rw (report-taken w c ok, report-taken v c (also ∙ ok))
-          (differing _ _ _ (w .image) image′ (unfold marked in marked-same (report-tests w c ok .limits) (eqb (w .state .out) none) refl))
+          (differing _ _ _ (w .image) image′ (unfold marked in marked-same (report-tests w c ok .limits) (eqb (w .state .out) none) refl (eqb c (w .state .out))))
       go (inr e) =
           let d = eqb-false number 0 e in
           rw (refused-leaves w (report c) d, refused-leaves v (report c) (λ z. d (sym also ∙ z))) here
+
+  -- a start alters the state, of both alike, and leaves which blocks are missing
+  start-both : Both start
+  start-both = (unfold play in refl, go (truth (eqb number 0)))
+    where
+      number : ℕ
+      number = play w start .reply .number
+
+      also : play v start .reply .number ≡ number
+      also = unfold play in refl
+
+      go : (eqb number 0 ≡ true) ⊎ (eqb number 0 ≡ false) → Alike (play w start .world) (play v start .world)
+      go (inl e) =
+          let ok = eqb-true number 0 e in
+          rw (start-taken w ok, start-taken v (also ∙ ok))
+          (differing _ _ _ (w .image) image′ (started-same (w .state) (w .image) image′ same (start-tests w ok .still)))
+      go (inr e) =
+          let d = eqb-false number 0 e in rw (refused-leaves w start d, refused-leaves v start (λ z. d (sym also ∙ z))) here
+
+  -- a rebuild step restores the same block in both
+  rebuild-both : Both rebuild
+  rebuild-both = go (truth (eqb number 0))
+    where
+      number : ℕ
+      number = play w rebuild .reply .number
+
+      also : play v rebuild .reply .number ≡ number
+      also = rebuild-same w image′ same
+
+      image-then : play w rebuild .reply .number ≡ 0
+          → Decayed (movedOn (w .state)) (restored (w .state) (w .image) (w .state .out) (w .state .fill)) (restored (w .state) image′ (w .state .out) (w .state .fill))
+      image-then ok =
+          let tests = rebuild-tests w ok in
+          let limits = tests .lent .limits in
+          let below = state-filling (w .state) limits (tests .way) .0 in
+          restored-same (w .state) (w .image) image′ same (image-length (w .state) (w .image) (or-false-left _ _ (tests .lent .lengths)))
+          (w .state .out) (w .state .fill) below (fill-missing (w .state) limits (tests .way)) (movedOn (w .state)) (moved-geometry (w .state))
+          (out-moved (w .state) (tests .way) below (state-bounds (w .state) limits .stripes-high))
+
+      go : (eqb number 0 ≡ true) ⊎ (eqb number 0 ≡ false) → Both rebuild
+      go (inl e) =
+          let ok = eqb-true number 0 e in
+          rw (rebuild-taken w ok, rebuild-taken v (also ∙ ok)) (refl, differing _ _ _ _ _ (image-then ok))
+      go (inr e) = let d = eqb-false number 0 e in left-both rebuild _ _ also (rebuild-left w d) (rebuild-left v (λ z. d (sym also ∙ z)))
 
   -- ---- a step
 
@@ -200,13 +260,7 @@ module _ (w : World) (image′ : List ℕ) (same : Decayed (w .state) (w .image)
 
         go : (eqb number 0 ≡ true) ⊎ (eqb number 0 ≡ false) → Both (step i k)
         go (inl e) = accepted-same (eqb-true number 0 e) (also ∙ eqb-true number 0 e)
-        go (inr e) =
-            let d = eqb-false number 0 e in (
-              ap (λ (o : Outcome). record { reply = o .reply; result = o .result }) (step-left v i k (λ z. d (sym also ∙ z)))
-                  ∙ ap (λ (m : ℕ). record { reply = refused m; result = [] }) also
-                  ∙ sym (ap (λ (o : Outcome). record { reply = o .reply; result = o .result }) (step-left w i k d)),
-              rw (refused-leaves w (step i k) d, refused-leaves v (step i k) (λ z. d (sym also ∙ z))) here,
-            )
+        go (inr e) = let d = eqb-false number 0 e in left-both (step i k) _ _ also (step-left w i k d) (step-left v i k (λ z. d (sym also ∙ z)))
 
   pub both : (e : Event) → Both e
   both (admit write s mask payload) = admit-both write s mask payload
@@ -214,3 +268,5 @@ module _ (w : World) (image′ : List ℕ) (same : Decayed (w .state) (w .image)
   both (report c) = report-both c
   both (collect i result) = collect-both i result
   both scan = scan-both
+  both start = start-both
+  both rebuild = rebuild-both

@@ -1,110 +1,140 @@
--- What the account says of the cards, of any engine: it is lost by one thing only, an accepted report of a second, different card, and stays so.
--- And of ours: the account's state is the world's, in every history, of a lost array too.
+-- What the account says of the state, of any engine: it is lost by one thing only, an accepted report of a second, different card while one is out, and
+-- stays so. And of ours: the account's state is the world's, in every history, of a lost array too.
 -- Assumes nothing.
-use Prim.Native.Nat.{ℕ}
+use Prim.Native.Nat.{ℕ, _+_}
 use mathlib.Core.Bool.{Bool, true, false, cond}
-use mathlib.Core.List.{List, [], _∷_, _++_}
 use mathlib.Core.Logic.{_⊎_, inl, inr}
-use mathlib.Core.Path.{_≡_, refl, sym, ap, _∙_}
+use mathlib.Core.Path.{_≡_, refl, sym, ap, ap₂, _∙_}
+use native.Mathlib.Decide.{ℕ-discrete}
 use native.Mathlib.Omega.{arith}
 use borrow.Author.Tests.{eqb-true, eqb-false, eq-eqb, ne-eqb}
-use lib.Dec.{eqb}
-use Rattle.terms.specs.Lists.{every}
+use lib.Dec.{ltb, eqb}
 use Rattle.terms.specs.Reply.{onAccept}
-use Rattle.terms.proofs.Rows.{and-left, and-right, truth}
-use Rattle.geometry.proofs.Bounds.{within-limits}
-use Rattle.geometry.specs.Limits.{none, geometryOf}
-use Rattle.geometry.specs.Report.{marked, withOut, withLost}
+use Rattle.terms.proofs.Rows.{truth}
+use Rattle.geometry.specs.Fill.{movedOn}
+use Rattle.geometry.specs.Limits.{none, noFill}
+use Rattle.geometry.specs.Report.{marked, withOut, withLost, withFill}
 use Rattle.geometry.specs.declared.State.{State}
-use Rattle.array.specs.Refusals.{opened as openedState}
-use Rattle.history.specs.Account.{Account, withEntry, stepNoted, reported, entered, noted}
-use Rattle.history.specs.History.{History, opened, next, decayed, openedAccount, Always, reportedIn, cardsOut, OneCard, Whole}
-use Rattle.history.specs.World.{World, Event, admit, step, report, collect, scan, Outcome, Engine, play}
+use Rattle.history.specs.Account.{Account, withEntry, stepNoted, reported, filledAt, entered, noted}
+use Rattle.history.specs.History.{History, opened, next, decayed, openedAccount, Always, Whole}
+use Rattle.history.specs.World.{World, Event, admit, step, report, collect, scan, start, rebuild, Outcome, Engine, play}
 use Rattle.history.proofs.Opened.{open-state}
-use Rattle.history.proofs.Replies.{report-tests, report-taken, refused-leaves}
+use Rattle.history.proofs.Replies.{report-taken, start-taken, rebuild-taken, refused-leaves}
 
--- ---- what a report notes
+-- ---- what the account notes of the cards is what the state's own definitions say
 
--- of another card than the one that is out, what report marks
-pub report-noted : (st : State) (c : ℕ) → ¬ (c ≡ st .out) → reported st c ≡ marked st c
+pub report-noted : (st : State) (c : ℕ) → reported st c ≡ marked st c
 unfolding reported marked
-report-noted st c another = rw (ne-eqb c (st .out) another)
+report-noted st c = refl
 
--- not lost: the mark is 0
-not-marked : (a : Account) → Whole a → a .state .lost ≡ 0
-unfolding Whole
-not-marked a whole = whole
+pub fill-noted : (st : State) → filledAt st (st .fill) ≡ movedOn st
+unfolding filledAt movedOn
+fill-noted st = refl
 
 -- ---- what a call makes of the account's state
 
--- an accepted report notes its card
-pub record Reports (engine : Engine) (w : World) (a : Account) (e : Event) (c : ℕ) : Type 0 where
-  pub is-report : e ≡ report c
-  pub is-accepted : engine w e .reply .number ≡ 0
-  pub card-noted : onAccept (engine w e .reply .number) (reportedIn e) [] ≡ c ∷ []
-  pub state-noted : noted engine w a e .state ≡ reported (a .state) c
-
--- any other call notes no card
-pub record Reportless (engine : Engine) (w : World) (a : Account) (e : Event) : Type 0 where
-  pub none-noted : onAccept (engine w e .reply .number) (reportedIn e) [] ≡ []
-  pub state-stays : noted engine w a e .state ≡ a .state
+-- after an accepted call that answers this first value
+abbrev pub stateAfter : State → Event → ℕ → State
+stateAfter st (admit write s mask payload) first = st
+stateAfter st (step i k) first = st
+stateAfter st (report c) first = reported st c
+stateAfter st (collect i result) first = st
+stateAfter st scan first = st
+stateAfter st start first = withFill st 0
+stateAfter st rebuild first = filledAt st first
 
 module _ (engine : Engine) (w : World) (a : Account) where
-  accepted-state : (e : Event) → engine w e .reply .number ≡ 0 → ((c : ℕ) × Reports engine w a e c) ⊎ Reportless engine w a e
-  unfolding noted entered withEntry stepNoted reportedIn
-  accepted-state (admit write s mask payload) ok = inr (record { none-noted = rw ok; state-stays = rw ok })
-  accepted-state (step i k) ok = inr (record { none-noted = rw ok; state-stays = rw ok })
-  accepted-state (report c) ok = inl (c, record { is-report = refl; is-accepted = ok; card-noted = rw ok; state-noted = rw ok })
-  accepted-state (collect i result) ok = inr (record { none-noted = rw ok; state-stays = rw ok })
-  accepted-state scan ok = inr (record { none-noted = rw ok; state-stays = rw ok })
+  -- what it answers
+  abbrev number : Event → ℕ
+  number e = engine w e .reply .number
 
-  pub noted-state : (e : Event) → ((c : ℕ) × Reports engine w a e c) ⊎ Reportless engine w a e
-  noted-state e = go (truth (eqb (engine w e .reply .number) 0))
-    where
-      go : (eqb (engine w e .reply .number) 0 ≡ true) ⊎ (eqb (engine w e .reply .number) 0 ≡ false)
-          → ((c : ℕ) × Reports engine w a e c) ⊎ Reportless engine w a e
-      go (inl f) = accepted-state e (eqb-true (engine w e .reply .number) 0 f)
-      go (inr f) = inr (record { none-noted = rw f; state-stays = unfold noted in rw f })
+  abbrev first : Event → ℕ
+  first e = engine w e .reply .first
+
+  accepted-state : (e : Event) → entered a e (engine w e) .state ≡ stateAfter (a .state) e (first e)
+  unfolding entered withEntry stepNoted
+  accepted-state (admit write s mask payload) = refl
+  accepted-state (step i k) = refl
+  accepted-state (report c) = refl
+  accepted-state (collect i result) = refl
+  accepted-state scan = refl
+  accepted-state start = refl
+  accepted-state rebuild = refl
+
+  -- accepted, or refused
+  pub noted-accepted : (e : Event) → number e ≡ 0 → noted engine w a e .state ≡ stateAfter (a .state) e (first e)
+  unfolding noted
+  noted-accepted e ok = rw (eq-eqb (number e) 0 ok) (accepted-state e)
+
+  pub noted-refused : (e : Event) → ¬ (number e ≡ 0) → noted engine w a e .state ≡ a .state
+  unfolding noted
+  noted-refused e d = rw (ne-eqb (number e) 0 d)
 
   -- ---- not lost, and lost
+
+  -- a state that is not lost after an accepted call was not lost before it
+  was-whole : (st : State) (e : Event) (k : ℕ) → stateAfter st e k .lost ≡ 0 → st .lost ≡ 0
+  was-whole st (admit write s mask payload) k z = z
+  was-whole st (step i j) k z = z
+  was-whole st (report c) k z = unfold reported in go (eqb (st .out) none) (eqb c (st .out)) z
+    where
+      go : (o p : Bool) → cond o (withOut st c) (cond p (withFill st noFill) (withLost st)) .lost ≡ 0 → st .lost ≡ 0
+      go true p z = z
+      go false true z = z
+      go false false z = absurd (omega arith)
+  was-whole st (collect i result) k z = z
+  was-whole st scan k z = z
+  was-whole st start k z = z
+  was-whole st rebuild k z = unfold filledAt in go (ltb (k + 1) (st .stripes)) z
+    where
+      go : (b : Bool) → cond b (withFill st (k + 1)) (withOut (withFill st noFill) none) .lost ≡ 0 → st .lost ≡ 0
+      go true z = z
+      go false z = z
+
+  -- and one that is lost after it but was not before: a report of a second, different card
+  abbrev Second : State → Event → Type 0
+  Second st e = (c : ℕ) × (e ≡ report c) × (¬ (st .out ≡ none)) × (¬ (c ≡ st .out))
+
+  now-lost : (st : State) (e : Event) (k : ℕ) → st .lost ≡ 0 → ¬ (stateAfter st e k .lost ≡ 0) → Second st e
+  now-lost st (admit write s mask payload) k whole l = absurd (l whole)
+  now-lost st (step i j) k whole l = absurd (l whole)
+  now-lost st (report c) k whole l = unfold reported in go (eqb (st .out) none) refl (eqb c (st .out)) refl l
+    where
+      go : (o : Bool) → eqb (st .out) none ≡ o → (p : Bool) → eqb c (st .out) ≡ p
+          → ¬ (cond o (withOut st c) (cond p (withFill st noFill) (withLost st)) .lost ≡ 0) → Second st (report c)
+      go true f p g l = absurd (l whole)
+      go false f true g l = absurd (l whole)
+      go false f false g l = (c, refl, eqb-false (st .out) none f, eqb-false c (st .out) g)
+  now-lost st (collect i result) k whole l = absurd (l whole)
+  now-lost st scan k whole l = absurd (l whole)
+  now-lost st start k whole l = absurd (l whole)
+  now-lost st rebuild k whole l = unfold filledAt in go (ltb (k + 1) (st .stripes)) l
+    where
+      go : (b : Bool) → ¬ (cond b (withFill st (k + 1)) (withOut (withFill st noFill) none) .lost ≡ 0) → Second st rebuild
+      go true l = absurd (l whole)
+      go false l = absurd (l whole)
 
   -- what is not lost after a call was not lost before it
   pub whole-call : (e : Event) → Whole (noted engine w a e) → Whole a
   unfolding Whole
-  whole-call e whole = go (noted-state e)
+  whole-call e whole = go (ℕ-discrete (number e) 0)
     where
-      now : noted engine w a e .state .lost ≡ 0
-      now = not-marked (noted engine w a e) whole
-
-      was : (c : ℕ) (o p : Bool) → cond o (withOut (a .state) c) (cond p (a .state) (withLost (a .state))) .lost ≡ 0 → a .state .lost ≡ 0
-      was c true p z = z
-      was c false true z = z
-      was c false false z = absurd (omega arith)
-
-      go : ((c : ℕ) × Reports engine w a e c) ⊎ Reportless engine w a e → a .state .lost ≡ 0
-      go (inl (c, r)) =
-          was c (eqb (a .state .out) none) (eqb c (a .state .out)) (unfold reported in (ap (λ (st : State). st .lost) (sym (r .state-noted)) ∙ now))
-      go (inr r) = ap (λ (st : State). st .lost) (sym (r .state-stays)) ∙ now
+      go : Dec (number e ≡ 0) → a .state .lost ≡ 0
+      go (yes ok) = was-whole (a .state) e (first e) (ap (λ (st : State). st .lost) (sym (noted-accepted e ok)) ∙ whole)
+      go (no d) = ap (λ (st : State). st .lost) (sym (noted-refused e d)) ∙ whole
 
   -- the array is lost by one thing only: an accepted report of a second, different card
   pub lost-by-report : (e : Event) → Whole a → ¬ Whole (noted engine w a e)
       → (c : ℕ) × (e ≡ report c) × (engine w e .reply .number ≡ 0) × (¬ (a .state .out ≡ none)) × (¬ (c ≡ a .state .out))
   unfolding Whole
-  lost-by-report e whole lost = go (noted-state e)
+  lost-by-report e whole lost = go (ℕ-discrete (number e) 0)
     where
-      second : (c : ℕ) (o p : Bool) → eqb (a .state .out) none ≡ o → eqb c (a .state .out) ≡ p
-          → ¬ (cond o (withOut (a .state) c) (cond p (a .state) (withLost (a .state))) .lost ≡ 0) → (¬ (a .state .out ≡ none)) × (¬ (c ≡ a .state .out))
-      second c true p f g l = absurd (l whole)
-      second c false true f g l = absurd (l whole)
-      second c false false f g l = (eqb-false (a .state .out) none f, eqb-false c (a .state .out) g)
-
-      go : ((c : ℕ) × Reports engine w a e c) ⊎ Reportless engine w a e
+      go : Dec (number e ≡ 0)
           → (c : ℕ) × (e ≡ report c) × (engine w e .reply .number ≡ 0) × (¬ (a .state .out ≡ none)) × (¬ (c ≡ a .state .out))
-      go (inl (c, r)) =
-          let two = second c (eqb (a .state .out) none) (eqb c (a .state .out)) refl refl
-          (unfold reported in (λ z. lost (ap (λ (st : State). st .lost) (r .state-noted) ∙ z))) in
-          (c, r .is-report, r .is-accepted, two .0, two .1)
-      go (inr r) = absurd (lost (ap (λ (st : State). st .lost) (r .state-stays) ∙ whole))
+      go (yes ok) =
+          let (c, is, some, other) = now-lost (a .state) e (first e) whole (λ z. lost (ap (λ (st : State). st .lost) (noted-accepted e ok) ∙ z)) in
+          (c, is, ok, some, other)
+      go (no d) = absurd (lost (ap (λ (st : State). st .lost) (noted-refused e d) ∙ whole))
 
 -- an array that is not lost at the end was not lost at any moment before
 pub whole-before : {engine : Engine} {w : World} {a : Account} (h : History engine w a) → Whole a → Always (λ v b. Whole b) h
@@ -112,53 +142,6 @@ unfolding Always
 whole-before (opened g out table work image ok) whole = whole
 whole-before {engine} (next {w} {a} h e) whole = (whole-before h (whole-call engine w a e whole), whole)
 whole-before (decayed h image d) whole = (whole-before h whole, whole)
-
--- ---- at most one card is reported
-
--- where all cards are c, the array is not lost, and c is out or none
-module _ (c : ℕ) where
-  record Only (st : State) : Type 0 where
-    not-lost : st .lost ≡ 0
-    this-out : (st .out ≡ none) ⊎ (st .out ≡ c)
-
-  abbrev All : List ℕ → Type 0
-  All cards = every (λ d. eqb d c) cards ≡ true
-
-  only-reported : (st : State) (d : ℕ) → d ≡ c → Only st → Only (reported st d)
-  unfolding reported
-  only-reported st d same only = go (eqb (st .out) none) refl (eqb d (st .out)) refl
-    where
-      go : (o : Bool) → eqb (st .out) none ≡ o → (p : Bool) → eqb d (st .out) ≡ p → Only (cond o (withOut st d) (cond p st (withLost st)))
-      go true f p g = record { not-lost = only .not-lost; this-out = inr same }
-      go false f true g = only
-      go false f false g = wrong (only .this-out)
-        where
-          wrong : (st .out ≡ none) ⊎ (st .out ≡ c) → Only (withLost st)
-          wrong (inl z) = absurd (eqb-false (st .out) none f z)
-          wrong (inr z) = absurd (eqb-false d (st .out) g (same ∙ sym z))
-
-  only-kept : {engine : Engine} {w : World} {a : Account} (h : History engine w a) → All (cardsOut h) → Only (a .state)
-  unfolding cardsOut every openedState openedAccount
-  only-kept (opened g out table work image ok) all = go (eqb out none) refl all
-    where
-      go : (t : Bool) → eqb out none ≡ t → All (cond t [] (out ∷ [])) → Only (openedState g out)
-      go true f q = record { not-lost = refl; this-out = inl (eqb-true out none f) }
-      go false f q = record { not-lost = refl; this-out = inr (eqb-true out c (and-left (eqb out c) true q)) }
-  only-kept {engine} (next {w} {a} h e) all = go (λ q. only-kept h q) (noted-state engine w a e)
-    where
-      go : (All (cardsOut h) → Only (a .state)) → ((d : ℕ) × Reports engine w a e d) ⊎ Reportless engine w a e → Only (noted engine w a e .state)
-      go before (inl (d, r)) =
-          let both : All (d ∷ cardsOut h) = rw (r .card-noted) at all in
-          rw (r .state-noted)
-          (only-reported (a .state) d (eqb-true d c (and-left (eqb d c) (every (λ k. eqb k c) (cardsOut h)) both))
-          (before (and-right (eqb d c) (every (λ k. eqb k c) (cardsOut h)) both)))
-      go before (inr r) = rw (r .state-stays) (before (rw (r .none-noted) at all))
-  only-kept (decayed h image d) all = only-kept h all
-
--- if all cards that were out at the opening or in an accepted report are one, the array is not lost
-pub one-card : {engine : Engine} {w : World} {a : Account} (h : History engine w a) → OneCard h → Whole a
-unfolding OneCard Whole
-one-card h (c, all) = only-kept c h all .not-lost
 
 -- ---- ours: the account's state is the world's
 
@@ -168,11 +151,14 @@ module _ (w : World) (a : Account) (same : w .state ≡ a .state) where
   accepted-same (admit write s mask payload) ok = same
   accepted-same (step i k) ok = same
   accepted-same (report c) ok =
-      ap (λ (o : Outcome). o .world .state) (report-taken w c ok)
-      ∙ sym (report-noted (w .state) c (report-tests w c ok .another))
-      ∙ ap (λ (st : State). reported st c) same
+      ap (λ (o : Outcome). o .world .state) (report-taken w c ok) ∙ sym (report-noted (w .state) c) ∙ ap (λ (st : State). reported st c) same
   accepted-same (collect i result) ok = same
   accepted-same scan ok = same
+  accepted-same start ok = ap (λ (o : Outcome). o .world .state) (start-taken w ok) ∙ ap (λ (st : State). withFill st 0) same
+  accepted-same rebuild ok =
+      ap (λ (o : Outcome). o .world .state) (rebuild-taken w ok)
+      ∙ sym (fill-noted (w .state))
+      ∙ ap₂ filledAt same (sym (ap (λ (o : Outcome). o .reply .first) (rebuild-taken w ok)))
 
   same-after : (e : Event) → play w e .world .state ≡ noted play w a e .state
   unfolding noted
@@ -187,49 +173,3 @@ pub state-kept : {w : World} {a : Account} → History play w a → w .state ≡
 state-kept (opened g out table work image ok) = unfold openedAccount in open-state g out table work image ok
 state-kept (next {w} {a} h e) = same-after w a (state-kept h) e
 state-kept (decayed h image d) = state-kept h
-
--- ---- and of ours the other way: where the array is not lost, all cards are the one that is out
-
-record Told (st : State) (cards : List ℕ) : Type 0 where
-  each-out : every (λ d. eqb d (st .out)) cards ≡ true
-  none-told : st .out ≡ none → cards ≡ []
-
--- the first report that is accepted, of a card
-first-told : (w : World) (a : Account) → w .state ≡ a .state → (c : ℕ) → play w (report c) .reply .number ≡ 0 → reported (a .state) c .lost ≡ 0
-    → (cards : List ℕ) → Told (a .state) cards → Told (reported (a .state) c) (c ∷ cards)
-unfolding every
-first-told w a same c ok whole cards told =
-    rw (report-noted (a .state) c another) (go (truth (eqb (a .state .out) none)) (rw (report-noted (a .state) c another) at whole))
-  where
-    another : ¬ (c ≡ a .state .out)
-    another e = report-tests w c ok .another (e ∙ ap (λ (st : State). st .out) (sym same))
-
-    no-none : ¬ (c ≡ none)
-    no-none e = omega (arith, report-tests w c ok .card-below, within-limits (geometryOf (w .state)) (w .state .out) (report-tests w c ok .limits) .cards-high)
-
-    go : (eqb (a .state .out) none ≡ true) ⊎ (eqb (a .state .out) none ≡ false) → marked (a .state) c .lost ≡ 0 → Told (marked (a .state) c) (c ∷ cards)
-    go (inl f) lost =
-        unfold marked in
-        rw (f, told .none-told (eqb-true (a .state .out) none f)) (record { each-out = rw (eq-eqb c c refl); none-told = λ e. absurd (no-none e) })
-    go (inr f) lost = let l : _≡_ {A = ℕ} 1 0 = unfold marked in (rw f at lost) in absurd (omega arith)
-
-all-told : {w : World} {a : Account} (h : History play w a) → Whole a → Told (a .state) (cardsOut h)
-unfolding cardsOut every openedState openedAccount Whole
-all-told (opened g out table work image ok) whole = go (truth (eqb out none))
-  where
-    go : (eqb out none ≡ true) ⊎ (eqb out none ≡ false) → Told (openedState g out) (cond (eqb out none) [] (out ∷ []))
-    go (inl f) = rw f (record { each-out = refl; none-told = λ e. refl })
-    go (inr f) = rw f (record { each-out = rw (eq-eqb out out refl); none-told = λ e. absurd (eqb-false out none f e) })
-all-told (next {w} {a} h e) whole = go (all-told h (whole-call play w a e whole)) (noted-state play w a e)
-  where
-    go : Told (a .state) (cardsOut h) → ((d : ℕ) × Reports play w a e d) ⊎ Reportless play w a e
-        → Told (noted play w a e .state) (onAccept (play w e .reply .number) (reportedIn e) [] ++ cardsOut h)
-    go before (inl (d, r)) =
-        rw (r .state-noted, r .card-noted)
-        (first-told w a (state-kept h) d (rw (r .is-report) at (r .is-accepted)) (rw (r .state-noted) at whole) (cardsOut h) before)
-    go before (inr r) = rw (r .state-stays, r .none-noted) before
-all-told (decayed h image d) whole = all-told h whole
-
-pub one-card-only : {w : World} {a : Account} (h : History play w a) → Whole a → OneCard h
-unfolding OneCard
-one-card-only {w} {a} h whole = (a .state .out, all-told h whole .each-out)

@@ -1,25 +1,25 @@
 -- What may happen to the state and the image while the table and the work store stay. The geometry is the same; and each stripe is carried on: its
 -- missing card stays or was none, and the positions that are not missing now hold what they held; or no open request holds it, and it rests on the
 -- row as the state and the image now are. Then the world stays sure.
--- So go a report (Report), decay of what is missing (Decay), and a stripe whose missing block is put right (PutRight).
+-- So go a report (Report), decay of what is missing (Decay), the start of a fill, and a stripe whose missing block is put right (PutRight, Fills).
+-- An open request's stripe always goes on: its missing card stays, or was none. So it turns from none to a card once at most while the request is open,
+-- and no request is chosen afresh twice: that is why 2n+3 stands, whatever fails and is filled meanwhile.
 -- Assumes nothing.
 use Prim.Native.Nat.{ℕ, _≤_, _<_}
-use mathlib.Core.Bool.{Bool, true, false, _||_}
+use mathlib.Core.Bool.{Bool, true, false}
 use mathlib.Core.List.{List}
-use mathlib.Core.Logic.{_⊎_, inl, inr}
+use mathlib.Core.Logic.{_⊎_, inl, inr, ⊎-elim}
 use mathlib.Core.Path.{_≡_, refl, sym, ap, subst, _∙_}
 use native.Mathlib.Omega.{arith}
-use borrow.Author.Tests.{eqb-true, eq-eqb}
-use lib.Dec.{eqb}
 use lib.ListN.{length}
-use Rattle.terms.proofs.Rows.{or-cases}
+use Rattle.terms.proofs.Rows.{truth}
 use Rattle.geometry.proofs.Bounds.{Bounds}
 use Rattle.geometry.proofs.Placing.{missingAt-none}
-use Rattle.geometry.specs.Limits.{none, geometryOf, beyondState}
+use Rattle.geometry.specs.Limits.{none, noFill, geometryOf, beyondState}
 use Rattle.geometry.specs.Placement.{outIn}
 use Rattle.geometry.specs.declared.Geometry.{Geometry}
 use Rattle.geometry.specs.declared.State.{State}
-use Rattle.record.proofs.Clauses.{Fit, fit, fit-sound}
+use Rattle.record.proofs.Clauses.{Fit, fit, fit-sound, chosen-none, chosen-missing, chosen-any, open-chosen, finished-chosen}
 use Rattle.record.specs.Life.{isFree, isOpen, unitsOf, missingIn}
 use Rattle.record.specs.Sound.{soundRecord, legalChosen, rightGraph, rightSteps, rightCount, lacksNone, held}
 use Rattle.record.specs.declared.Record.{Record}
@@ -39,9 +39,9 @@ use Rattle.history.proofs.Rows.{rowOf, afterRow}
 use Rattle.record.proofs.SoundTables.{Sound, sound-elim, sound-intro, held-elim, holds-elim}
 
 -- a state of a geometry, with these marks
-abbrev pub marks : Geometry → ℕ → ℕ → State
-marks g out lost =
-    record { cards = g .cards; stripes = g .stripes; block = g .block; records = g .records; out = out; lost = lost }
+abbrev pub marks : Geometry → ℕ → ℕ → ℕ → State
+marks g out lost fill =
+    record { cards = g .cards; stripes = g .stripes; block = g .block; records = g .records; out = out; lost = lost; fill = fill }
 
 -- ---- of one stripe: position x was missing and y is now, the same one or none was; and positions but y hold what they held
 
@@ -77,12 +77,10 @@ module _ (w : World) (a : Account) (st : State) (image : List ℕ) where
     pub same-cells : (b p : ℕ) → b < w .state .block → p ≤ unitsOf (w .state) → ¬ (p ≡ missingIn st s)
         → cellsOf st image s b p ≡ cellsOf (w .state) (w .image) s b p
 
-  -- a stripe that no open request holds rests on the row anew, and its records' chosen-with cards are known there
+  -- a stripe that no open request holds rests on the row anew
   pub record RestsAnew (s : ℕ) : Type 0 where
     pub idle : held (w .table) s ≡ false
     pub rests : Resting st image (a .row) s
-    pub known : (i : ℕ) → i < w .state .records → isFree (recordAt w i) ≡ false → recordAt w i .stripe ≡ s
-        → legalChosen st (recordAt w i) ≡ true
 
   pub record Carried : Type 0 where
     pub same-geometry : geometryOf st ≡ geometryOf (w .state)
@@ -96,12 +94,12 @@ module _ (w : World) (a : Account) (sure : Sure w a) where
   limits = bounds (sure .right)
 
   -- of this world's geometry
-  module _ (out lost : ℕ) (image : List ℕ) (carried : Carried w a (marks (geometryOf (w .state)) out lost) image) where
+  module _ (out lost fill : ℕ) (image : List ℕ) (carried : Carried w a (marks (geometryOf (w .state)) out lost fill) image) where
     abbrev st : State
     st = w .state
 
     abbrev st′ : State
-    st′ = marks (geometryOf (w .state)) out lost
+    st′ = marks (geometryOf (w .state)) out lost fill
 
     abbrev n : ℕ
     n = unitsOf st
@@ -113,22 +111,25 @@ module _ (w : World) (a : Account) (sure : Sure w a) where
         let m : missingIn st s ≡ st .cards = missingAt-none (st .cards) s (outIn st s) (omega (arith, e, limits .cards-high)) in
         inr (omega (arith, m, limits .cards-low))
 
-    -- a chosen-with card is none, or the one that stays
-    chosen-stays : (r : Record) → (outIn st′ (r .stripe) ≡ outIn st (r .stripe)) ⊎ (outIn st (r .stripe) ≡ none)
+    -- an open record's chosen-with card is none, or the one that stays
+    chosen-stays : (r : Record) → isOpen r ≡ true → (outIn st′ (r .stripe) ≡ outIn st (r .stripe)) ⊎ (outIn st (r .stripe) ≡ none)
         → legalChosen st r ≡ true → legalChosen st′ r ≡ true
-    unfolding legalChosen
-    chosen-stays r h e = go (or-cases (eqb (r .chosen) none) (eqb (r .chosen) (outIn st (r .stripe))) e) h
+    chosen-stays r o h e = go (open-chosen st r o e) h
       where
-        second : (t : Bool) → eqb (r .chosen) (outIn st′ (r .stripe)) ≡ true → (t || eqb (r .chosen) (outIn st′ (r .stripe))) ≡ true
-        second true f = refl
-        second false f = f
+        go : (r .chosen ≡ none) ⊎ (r .chosen ≡ outIn st (r .stripe)) → (outIn st′ (r .stripe) ≡ outIn st (r .stripe)) ⊎ (outIn st (r .stripe) ≡ none)
+            → legalChosen st′ r ≡ true
+        go (inl f) h = chosen-none st′ r f
+        go (inr f) (inl g) = chosen-missing st′ r o (f ∙ sym g)
+        go (inr f) (inr g) = chosen-none st′ r (f ∙ g)
 
-        go : (eqb (r .chosen) none ≡ true) ⊎ (eqb (r .chosen) (outIn st (r .stripe)) ≡ true)
-            → (outIn st′ (r .stripe) ≡ outIn st (r .stripe)) ⊎ (outIn st (r .stripe) ≡ none)
-            → (eqb (r .chosen) none || eqb (r .chosen) (outIn st′ (r .stripe))) ≡ true
-        go (inl f) h = rw f
-        go (inr f) (inl g) = second (eqb (r .chosen) none) (rw g f)
-        go (inr f) (inr g) = rw (eq-eqb (r .chosen) none (eqb-true (r .chosen) (outIn st (r .stripe)) f ∙ g))
+    -- a finished one's is none, or any card
+    chosen-past : (r : Record) → isOpen r ≡ false → legalChosen st r ≡ true → legalChosen st′ r ≡ true
+    chosen-past r o e = ⊎-elim (λ f. chosen-none st′ r f) (λ f. chosen-any st′ r o f) (finished-chosen st r o e)
+
+    -- no open record is of a stripe that no open request holds
+    not-open : (i : ℕ) → i < st .records → held (w .table) (recordAt w i .stripe) ≡ false → isOpen (recordAt w i) ≡ true → ⊥
+    not-open i h idle o =
+        holds-elim (recordAt w i .stripe) (recordAt w i) (held-elim (w .table) (recordAt w i .stripe) idle i (omega (arith, sure .right .table-right))) o refl
 
     sound-stays : (i : ℕ) → i < st .records → soundRecord st (recordAt w i) ≡ true → soundRecord st′ (recordAt w i) ≡ true
     sound-stays i h e = go (isFree r) refl
@@ -136,9 +137,11 @@ module _ (w : World) (a : Account) (sure : Sure w a) where
         r : Record
         r = recordAt w i
 
-        known : isFree r ≡ false → Fit st r → GoesOn w a st′ image (r .stripe) ⊎ RestsAnew w a st′ image (r .stripe) → legalChosen st′ r ≡ true
-        known f was (inl g) = chosen-stays r (g .stays) (was .chosen-legal)
-        known f was (inr g) = g .known i h f refl
+        known : Fit st r → (isOpen r ≡ true) ⊎ (isOpen r ≡ false) → GoesOn w a st′ image (r .stripe) ⊎ RestsAnew w a st′ image (r .stripe)
+            → legalChosen st′ r ≡ true
+        known was (inl o) (inl g) = chosen-stays r o (g .stays) (was .chosen-legal)
+        known was (inl o) (inr g) = absurd (not-open i h (g .idle) o)
+        known was (inr o) g = chosen-past r o (was .chosen-legal)
 
         all : isFree r ≡ false → Fit st′ r
         all f =
@@ -150,7 +153,7 @@ module _ (w : World) (a : Account) (sure : Sure w a) where
               stripe-below = was .stripe-below;
               mask-legal = was .mask-legal;
               graph-legal = was .graph-legal;
-              chosen-legal = known f was (carried .each (r .stripe) (was .stripe-below));
+              chosen-legal = known was (truth (isOpen r)) (carried .each (r .stripe) (was .stripe-below));
               right-graph = was .right-graph;
               right-steps = was .right-steps;
               right-count = was .right-count;
@@ -193,8 +196,7 @@ module _ (w : World) (a : Account) (sure : Sure w a) where
                   faithful-on n (missingIn st (r .stripe)) (missingIn st′ (r .stripe)) on _ _ _ _ _ (cellsOf st′ image (r .stripe) b)
                   (λ p l d. g .same-cells b p hb l d) (was .faithful b hb);
             }
-        go (inr g) =
-            absurd (holds-elim (r .stripe) r (held-elim (w .table) (r .stripe) (g .idle) i (omega (arith, sure .right .table-right))) o refl)
+        go (inr g) = absurd (not-open i h (g .idle) o)
 
     rests-now : (s : ℕ) → s < st .stripes → held (w .table) s ≡ false → Resting st′ image (a .row) s
     unfolding rowOf
@@ -232,9 +234,9 @@ module _ (w : World) (a : Account) (sure : Sure w a) where
       → Sure (record { state = st; table = w .table; work = w .work; image = image }) (record { state = book; row = a .row; entry = a .entry })
   carried-sure st image carried =
       subst
-      (λ (g : Geometry). Carried w a (marks g (st .out) (st .lost)) image → (book : State)
-      → Sure (record { state = marks g (st .out) (st .lost); table = w .table; work = w .work; image = image }) (record { state = book; row = a .row; entry = a .entry }))
-      (sym (carried .same-geometry)) (sure-now (st .out) (st .lost) image) carried
+      (λ (g : Geometry). Carried w a (marks g (st .out) (st .lost) (st .fill)) image → (book : State)
+      → Sure (record { state = marks g (st .out) (st .lost) (st .fill); table = w .table; work = w .work; image = image }) (record { state = book; row = a .row; entry = a .entry }))
+      (sym (carried .same-geometry)) (sure-now (st .out) (st .lost) (st .fill) image) carried
 
 -- ---- the state alone changes: the geometry is the same, and in each stripe the missing card stays or was none
 
@@ -244,7 +246,7 @@ pub record Onward (st st′ : State) : Type 0 where
 
 -- the bytes of the positions are the same where the geometry is
 pub same-cells : (st st′ : State) → geometryOf st′ ≡ geometryOf st → (image : List ℕ) (s b p : ℕ) → cellsOf st′ image s b p ≡ cellsOf st image s b p
-same-cells st st′ same image s b p = ap (λ (g : Geometry). cellsOf (marks g none 0) image s b p) same
+same-cells st st′ same image s b p = ap (λ (g : Geometry). cellsOf (marks g none 0 noFill) image s b p) same
 
 pub onward-sure : (w : World) (a : Account) → Sure w a → (st : State) → Onward (w .state) st → beyondState st ≡ false → st .lost ≡ 0 → (book : State)
     → Sure (record { state = st; table = w .table; work = w .work; image = w .image }) (record { state = book; row = a .row; entry = a .entry })

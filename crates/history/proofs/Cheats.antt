@@ -14,7 +14,7 @@ use Rattle.record.specs.Life.{free, isOpen, isFinished, unitsOf}
 use Rattle.record.specs.declared.Record.{Record}
 use Rattle.history.specs.Examples.{fill, withState, withTable}
 use Rattle.history.specs.Promise.{Keeps}
-use Rattle.history.specs.World.{Event, admit, step, report, collect, scan, Outcome, Engine, play, recordAt}
+use Rattle.history.specs.World.{Event, admit, step, report, collect, scan, start as startFill, rebuild, Outcome, Engine, play, recordAt}
 use Rattle.history.proofs.Runs.{begun, run, bookkeeping, kindOf, recordOf, accepts, leaving}
 
 -- ---- one that accepts reports and forgets them
@@ -60,6 +60,8 @@ writesUnit n (step i k) = leb (n + 2) k && ltb k (2 * n + 2)
 writesUnit n (report c) = false
 writesUnit n (collect i result) = false
 writesUnit n scan = false
+writesUnit n startFill = false
+writesUnit n rebuild = false
 
 unfoldable pub dropper : Engine
 dropper w e = let o = play w e in cond (accepts 2 e o && writesUnit (unitsOf (w .state)) e && isOpen (recordLeft e o)) (replaced e free o) o

@@ -5,15 +5,17 @@ use Rattle.terms.specs.Lists.{tabulate, part, put, every, among, changes}
 use Rattle.terms.specs.Reply.{firstRow}
 use Rattle.terms.specs.Sets.{within, bit, allBelow, lowest, xorTo}
 use Rattle.geometry.specs.Answers.{placeRefusal, placeReply, blockAtRefusal, blockAtReply}
-use Rattle.geometry.specs.Limits.{legal, legalOut, beyond}
-use Rattle.geometry.specs.Placement.{parityCard, cardAt, positionOf, outIn, missingAt}
-use Rattle.geometry.specs.Report.{reportRefusal, marked, reporting}
+use Rattle.geometry.specs.Fill.{startRows, startRefusal, starting, movedOn}
+use Rattle.geometry.specs.Limits.{legal, legalOut, legalFill, beyond, beyondState}
+use Rattle.geometry.specs.Placement.{parityCard, cardAt, positionOf, filled, outIn, missingAt}
+use Rattle.geometry.specs.Report.{stateRows, reportRows, reportRefusal, marked, reporting}
 use Rattle.geometry.specs.Store.{imageSize, cellAt, workSize, writeAt, readAt, imageWrong, workWrong}
 use Rattle.graph.specs.Choice.{unitOut, unitOutIn, allUnits, chooseRead, chooseWrite, choose}
 use Rattle.graph.specs.Order.{anyRead, readOf, isSum, before, cleared, ready, complete, closed}
 use Rattle.graph.specs.Steps.{stepOf, byGraph, masked, unmasked, reads, sums, writes, member}
 use Rattle.graph.specs.Sums.{takesNew, sumsToRead}
 use Rattle.parity.specs.Parity.{byteAt, parityByte, wrongByte, wrongStripe, rightParity, disagreement}
+use Rattle.parity.specs.Rest.{restOf, restored}
 use Rattle.record.specs.Life.{admitted, stepped, afresh}
 use Rattle.record.specs.Sound.{allZero, legalMask, legalRecord, legalChosen, rightGraph, rightSteps, lacksNone, rightCount, soundRecord}
 use Rattle.record.specs.Asked.{heldStripe}
@@ -23,12 +25,13 @@ use Rattle.array.specs.Admission.{keepUnits, admissionBy, admission}
 use Rattle.array.specs.Collection.{handOver, collectionBy, collection}
 use Rattle.array.specs.Lent.{tableWrong, lentRows, unitBytes, rank}
 use Rattle.array.specs.Opening.{openingBy, opening}
-use Rattle.array.specs.Refusals.{opened as openedState, openRefusal, payloadWrong, admitRows, admitRefusal, stepReady, stepRows, stepRefusal, resultShort, collectRows, collectRefusal, scanRows, scanRefusal}
+use Rattle.array.specs.Refusals.{opened as openedState, openRefusal, payloadWrong, admitRows, admitRefusal, stepReady, stepRows, stepRefusal, resultShort, collectRows, collectRefusal, scanRows, scanRefusal, rebuildRows, rebuildRefusal}
+use Rattle.array.specs.Rebuilding.{rebuildingBy, rebuilding}
 use Rattle.array.specs.Scan.{scanReplyBy, scanReply}
 use Rattle.array.specs.Stepping.{meetsOut, sumByte, sumAt, workAfter, imageAfter, accepting, steppingBy, stepping}
 use Rattle.history.specs.Examples.{opened, after}
 use Rattle.history.specs.History.{openedWorld}
-use Rattle.history.specs.Row.{blockAt, restOf}
+use Rattle.history.specs.Row.{blockAt}
 use Rattle.history.specs.World.{play}
 
 unfoldable words : Unit {0}
@@ -36,11 +39,11 @@ unfolding ones onesIn tabulate part put every among changes firstRow within bit 
 words = tt
 
 unfoldable places : Unit {0}
-unfolding placeRefusal placeReply blockAtRefusal blockAtReply legal legalOut beyond parityCard cardAt positionOf outIn missingAt
+unfolding placeRefusal placeReply blockAtRefusal blockAtReply legal legalOut legalFill beyond beyondState parityCard cardAt positionOf filled outIn missingAt
 places = tt
 
 unfoldable stores : Unit {0}
-unfolding reportRefusal marked reporting imageSize cellAt workSize writeAt readAt imageWrong workWrong
+unfolding stateRows reportRows reportRefusal marked reporting startRows startRefusal starting movedOn imageSize cellAt workSize writeAt readAt imageWrong workWrong
 stores = tt
 
 unfoldable graphs : Unit {0}
@@ -60,13 +63,13 @@ unfolding clash apart sound holds held lowestFree heldStripe looksAt unseen surv
 tables = tt
 
 unfoldable refusals : Unit {0}
-unfolding openRefusal payloadWrong admitRows admitRefusal stepReady stepRows stepRefusal resultShort collectRows collectRefusal scanRows scanRefusal
+unfolding openRefusal payloadWrong admitRows admitRefusal stepReady stepRows stepRefusal resultShort collectRows collectRefusal scanRows scanRefusal rebuildRows rebuildRefusal
 refusals = tt
 
 unfoldable calls : Unit {0}
-unfolding openingBy opening openedState keepUnits admissionBy admission handOver collectionBy collection scanReplyBy scanReply meetsOut sumByte sumAt workAfter imageAfter accepting steppingBy stepping
+unfolding openingBy opening openedState keepUnits admissionBy admission handOver collectionBy collection scanReplyBy scanReply rebuildingBy rebuilding meetsOut sumByte sumAt workAfter imageAfter accepting steppingBy stepping
 calls = tt
 
 unfoldable pub computed : Unit {0}
-unfolding words places stores graphs orders records tables refusals calls opened after openedWorld blockAt restOf play
+unfolding words places stores graphs orders records tables refusals calls opened after openedWorld blockAt restOf restored play
 computed = tt

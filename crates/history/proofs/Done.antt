@@ -120,7 +120,7 @@ module _ (w : World) (a : Account) (sure : Sure w a) (i k : ℕ) (ok : Ready (w 
       (is-ready w a sure i k ok) (misses x step working))
 
   sound-done : Fit st done
-  sound-done = stepped-fit st r k x (fits w a sure i k ok) proper
+  sound-done = stepped-fit st r k x (sure .right .limits) (ok .is-open) (fits w a sure i k ok) proper
 
   matches-done : (t : Bool) → last ≡ t → Matches st done (counted st (a .row) e t)
   unfolding stepped

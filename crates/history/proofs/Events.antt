@@ -11,28 +11,28 @@ use lib.Dec.{eqb}
 use lib.ListN.{getD, set}
 use lib.Seq.{getD-set-same}
 use Rattle.terms.proofs.Rows.{truth}
-use Rattle.geometry.specs.Limits.{none}
-use Rattle.geometry.specs.Report.{marked}
+use Rattle.geometry.specs.Limits.{none, noFill}
+use Rattle.geometry.specs.Report.{marked, withOut, withLost, withFill}
 use Rattle.geometry.specs.declared.State.{State}
 use Rattle.graph.specs.Order.{complete, after}
 use Rattle.graph.specs.Steps.{stepOf}
 use Rattle.record.specs.Life.{free, isFinished, unitsOf, chosenAt, missingIn, stepped, afresh}
 use Rattle.record.specs.declared.Record.{Record}
-use Rattle.array.proofs.Reports.{Reports}
 use Rattle.array.proofs.Steppings.{Ready}
 use Rattle.array.specs.Stepping.{meetsOut}
-use Rattle.history.specs.Account.{Account, Entry, withEntry, stepNoted, reported, entered, noted}
+use Rattle.history.specs.Account.{Account, Entry, withEntry, stepNoted, entered, noted}
 use Rattle.history.specs.History.{History, opened, next, decayed, Whole}
-use Rattle.history.specs.World.{World, Event, admit, step, report, collect, scan, play, recordAt}
+use Rattle.history.specs.World.{World, Event, admit, step, report, collect, scan, start, rebuild, play, recordAt}
 use Rattle.history.proofs.Admit.{admit-sure}
-use Rattle.history.proofs.Books.{report-noted, state-kept, whole-call}
+use Rattle.history.proofs.Books.{report-noted, fill-noted, state-kept, whole-call}
 use Rattle.history.proofs.Collect.{collect-sure}
 use Rattle.history.proofs.Decay.{decay-sure}
 use Rattle.history.proofs.Done.{done-sure}
+use Rattle.history.proofs.Fills.{start-sure, rebuild-sure}
 use Rattle.history.proofs.Invariant.{Sure}
 use Rattle.history.proofs.Opened.{open-sure}
-use Rattle.history.proofs.Replies.{admit-tests, admit-taken, step-tests, step-afresh, step-done, report-tests, report-taken, collect-tests, collect-taken, refused-leaves}
-use Rattle.history.proofs.Report.{report-sure}
+use Rattle.history.proofs.Replies.{admit-tests, admit-taken, step-tests, step-afresh, step-done, report-tests, report-taken, start-tests, start-taken, rebuild-tests, rebuild-taken, rebuild-idle, collect-tests, collect-taken, refused-leaves}
+use Rattle.history.proofs.Report.{first-sure, ended-sure}
 use Rattle.history.proofs.Rows.{afterRow}
 use Rattle.history.proofs.Step.{afresh-sure}
 
@@ -89,22 +89,22 @@ module _ (w : World) (row : ℕ → List ℕ) (entry : ℕ → Entry) where
           go (inl e) = rw (step-afresh w i k ok e, put-there (afresh (w .state) r), unfinished (w .state) r) (afresh-sure w a sure i k tests e)
           go (inr e) = done e (truth last)
 
-    -- an accepted report is of the first card: a second, different one would lose the array
-    report-kept : (c : ℕ) → play w (report c) .reply .number ≡ 0 → reported (w .state) c .lost ≡ 0
+    -- an accepted report is of the first card, or of a fresh one: a second, different one would lose the array
+    report-kept : (c : ℕ) → play w (report c) .reply .number ≡ 0 → marked (w .state) c .lost ≡ 0
         → Sure (record { state = marked (w .state) c; table = w .table; work = w .work; image = w .image })
-        (record { state = reported (w .state) c; row = row; entry = entry })
-    report-kept c ok whole =
-        rw (report-noted (w .state) c (tests .another))
-        (go (truth (eqb (w .state .out) none)) (rw (report-noted (w .state) c (tests .another)) at whole))
+        (record { state = marked (w .state) c; row = row; entry = entry })
+    unfolding marked
+    report-kept c ok whole = go (eqb (w .state .out) none) refl (eqb c (w .state .out)) whole
       where
-        tests : Reports (w .state) c
-        tests = report-tests w c ok
+        after-report : Bool → Bool → State
+        after-report o p = cond o (withOut (w .state) c) (cond p (withFill (w .state) noFill) (withLost (w .state)))
 
-        go : (eqb (w .state .out) none ≡ true) ⊎ (eqb (w .state .out) none ≡ false) → marked (w .state) c .lost ≡ 0
-            → Sure (record { state = marked (w .state) c; table = w .table; work = w .work; image = w .image })
-            (record { state = marked (w .state) c; row = row; entry = entry })
-        go (inl f) lost = unfold marked in rw f (report-sure w a sure c (eqb-true (w .state .out) none f) (tests .card-below))
-        go (inr f) lost = let l : _≡_ {A = ℕ} 1 0 = unfold marked in (rw f at lost) in absurd (omega arith)
+        go : (o : Bool) → eqb (w .state .out) none ≡ o → (p : Bool) → after-report o p .lost ≡ 0
+            → Sure (record { state = after-report o p; table = w .table; work = w .work; image = w .image })
+            (record { state = after-report o p; row = row; entry = entry })
+        go true f p lost = first-sure w a sure c (eqb-true (w .state .out) none f) (report-tests w c ok .card-below)
+        go false f true lost = ended-sure w a sure
+        go false f false lost = absurd (omega arith)
 
     -- an accepted call
     accepted-kept : (e : Event) → play w e .reply .number ≡ 0 → Whole (entered a e (play w e)) → Sure (play w e .world) (entered a e (play w e))
@@ -112,9 +112,12 @@ module _ (w : World) (row : ℕ → List ℕ) (entry : ℕ → Entry) where
     accepted-kept (admit write s mask payload) ok whole =
         rw (admit-taken w write s mask payload ok) (admit-sure w a sure write s mask payload (admit-tests w write s mask payload ok))
     accepted-kept (step i k) ok whole = step-kept i k ok
-    accepted-kept (report c) ok whole = rw (report-taken w c ok) (report-kept c ok whole)
+    accepted-kept (report c) ok whole = rw (report-taken w c ok, report-noted (w .state) c) (report-kept c ok (rw (report-noted (w .state) c) at whole))
     accepted-kept (collect i result) ok whole = rw (collect-taken w i result ok) (collect-sure w a sure i result (collect-tests w i result ok))
     accepted-kept scan ok whole = unfold play in sure
+    accepted-kept start ok whole = rw (start-taken w ok) (start-sure w a sure (start-tests w ok .still) (start-tests w ok .one-out))
+    accepted-kept rebuild ok whole =
+        rw (rebuild-taken w ok, fill-noted (w .state)) (rebuild-sure w a sure (rebuild-tests w ok .way) (rebuild-idle w (sure .right) ok))
 
     -- any call: a refused one leaves the world and the account
     call-kept : (e : Event) → Whole (noted play w a e) → Sure (play w e .world) (noted play w a e)

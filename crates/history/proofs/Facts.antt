@@ -6,8 +6,8 @@ use mathlib.Core.List.{List}
 use mathlib.Core.Path.{_≡_}
 use native.Mathlib.Omega.{arith}
 use lib.ListN.{getD}
-use Rattle.geometry.proofs.Bounds.{Bounds, within-limits}
-use Rattle.geometry.specs.Limits.{geometryOf}
+use Rattle.geometry.proofs.Bounds.{Bounds}
+use Rattle.geometry.proofs.States.{state-bounds}
 use Rattle.geometry.specs.declared.State.{State}
 use Rattle.record.specs.Life.{free, isFree, isOpen}
 use Rattle.record.specs.declared.Record.{Record}
@@ -17,7 +17,7 @@ use Rattle.record.proofs.SoundTables.{sound-elim}
 
 module _ {st : State} {table : List Record} {work image : List ℕ} (right : Right st table work image) where
   pub bounds : Bounds (st .cards) (st .stripes) (st .block) (st .records)
-  bounds = within-limits (geometryOf st) (st .out) (right .limits)
+  bounds = state-bounds st (right .limits)
 
   pub fits : (i : ℕ) → i < st .records → isFree (getD table i free) ≡ false → Fit st (getD table i free)
   fits i h f = fit st (getD table i free) (sound-elim st table (right .is-sound) .each i (omega (arith, right .table-right))) f

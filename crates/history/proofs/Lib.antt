@@ -22,17 +22,21 @@ pub mod Done
 pub mod Carried
 pub mod Report
 pub mod PutRight
+pub mod Fills
 pub mod Collect
 pub mod Decay
 pub mod Books
+pub mod Cards
 pub mod Events
 -- The promise follows
 pub mod Stripes
 pub mod Promised
+pub mod Refill
 -- Nothing depends on the bytes of the card that is out
 pub mod Unseen
 pub mod Scans
 pub mod Calls
+pub mod FillsAlike
 pub mod Alikes
 pub mod Independent
 -- The theorems
@@ -44,6 +48,7 @@ pub mod Compute
 pub mod Starred
 pub mod Runs
 pub mod Served
+pub mod Refilled
 pub mod Needed
 pub mod Impostors
 pub mod Cheats

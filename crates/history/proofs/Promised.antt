@@ -16,6 +16,7 @@ use Rattle.terms.proofs.Lists.{length-part}
 use Rattle.terms.proofs.Rows.{and-right, truth}
 use Rattle.terms.proofs.Sets.{lowest-holds}
 use Rattle.geometry.proofs.Apart.{read-inside}
+use Rattle.geometry.proofs.Missing.{filled-none, none-missing}
 use Rattle.geometry.specs.Store.{readAt}
 use Rattle.geometry.specs.declared.State.{State}
 use Rattle.record.proofs.Soundness.{sound-record, sound-ready}
@@ -27,13 +28,13 @@ use Rattle.array.specs.Collection.{handOver}
 use Rattle.array.specs.Lent.{rank, unitBytes}
 use Rattle.array.specs.Refusals.{resultShort, stepReady}
 use Rattle.history.specs.Account.{Account, Entry}
-use Rattle.history.specs.Promise.{Vacant, Open, Finished, Idle, Agree, blocksRead, Promise}
-use Rattle.history.specs.World.{World, admit, step, collect, play, recordAt}
-use Rattle.history.proofs.Facts.{fits}
+use Rattle.history.specs.Promise.{Vacant, Open, Finished, Idle, Works, Filling, Filled, stripeFor, cardFor, parityFor, Agree, blocksRead, Promise}
+use Rattle.history.specs.World.{World, admit, step, collect, rebuild, Outcome, play, recordAt}
+use Rattle.history.proofs.Facts.{bounds, fits}
 use Rattle.history.proofs.Gather.{gathered-length, hand-over}
 use Rattle.history.proofs.Invariant.{Sure}
 use Rattle.history.proofs.Records.{mask-units}
-use Rattle.history.proofs.Replies.{admit-tests, admit-taken, step-tests, collect-tests, collect-taken, lent, step-grants, collect-grants}
+use Rattle.history.proofs.Replies.{admit-tests, admit-taken, step-tests, collect-tests, collect-taken, rebuild-taken, lent, step-grants, collect-grants, rebuild-grants, rebuild-waits}
 use Rattle.history.proofs.Stripes.{promised-unit, promised-parity, promised-inferred, promised-scan}
 use Rattle.record.proofs.SoundTables.{held-intro, holds-not}
 use Rattle.record.proofs.Clauses.{open-not-free, finished-not-free}
@@ -204,6 +205,22 @@ module _ (w : World) (row : ℕ → List ℕ) (entry : ℕ → Entry) where
         let ready = sound-ready st (recordAt w i) (sound-record st (w .table) (sure .right .is-sound) i) (open-record i o) in
         (ready .0, step-grants w (sure .right) i (ready .0) (o .0) (open-record i o) (ready .1))
 
+    -- ---- a fill
+
+    -- in a filled stripe every card works
+    nothing-missing : (c s : ℕ) → Filled a s → Works a c s
+    nothing-missing c s full = none-missing st c s (omega (arith, filled-none st s full, bounds (sure .right) .cards-high))
+
+    fills : Filling a → Idle a (st .fill) → play w rebuild .reply ≡ accepted (st .fill) 0
+    fills way idle = ap (λ (o : Outcome). o .reply) (rebuild-taken w (rebuild-grants w (sure .right) way (not-held (st .fill) idle)))
+
+    waits : Filling a → (play w rebuild .reply .number ≡ 0) ⊎ (play w rebuild .reply .number ≡ 8)
+    waits way = go (truth (held (w .table) (st .fill)))
+      where
+        go : (held (w .table) (st .fill) ≡ true) ⊎ (held (w .table) (st .fill) ≡ false) → (play w rebuild .reply .number ≡ 0) ⊎ (play w rebuild .reply .number ≡ 8)
+        go (inl busy) = inr (rebuild-waits w (sure .right) way busy)
+        go (inr idle) = inl (rebuild-grants w (sure .right) way idle)
+
     promised : Promise play w a
     promised =
         record {
@@ -219,6 +236,10 @@ module _ (w : World) (row : ℕ → List ℕ) (entry : ℕ → Entry) where
           units = λ L h idle. promised-unit w a sure L h (not-held _ idle);
           parity = λ s h idle. promised-parity w a sure s h (not-held s idle);
           inferred = λ L h idle. promised-inferred w a sure L h (not-held _ idle);
+          filled-units = λ L h idle full. promised-unit w a sure L h (not-held _ idle) (nothing-missing (cardFor a L) (stripeFor a L) full);
+          filled-parity = λ s h idle full. promised-parity w a sure s h (not-held s idle) (nothing-missing (parityFor a s) s full);
+          fills = fills;
+          waits = waits;
           scans = promised-scan w a sure;
           most = most;
           most-open = most-open;

@@ -17,14 +17,15 @@ use Rattle.terms.specs.Sets.{xorTo}
 use Rattle.block.proofs.Sums.{others}
 use Rattle.geometry.proofs.Bounds.{Bounds}
 use Rattle.geometry.proofs.Placing.{placed-in, missingAt-is, out-position, out-card}
-use Rattle.geometry.specs.Limits.{none, geometryOf, beyondState}
+use Rattle.geometry.specs.Limits.{none, noFill, geometryOf, beyondState}
 use Rattle.geometry.specs.Placement.{cardOfPosition, positionOfCard, Missing, outIn}
 use Rattle.geometry.specs.Placing.{Placing}
 use Rattle.geometry.specs.Store.{cellAt}
 use Rattle.geometry.specs.declared.Geometry.{Geometry}
 use Rattle.geometry.specs.declared.State.{State}
-use Rattle.record.specs.Life.{isFree, unitsOf, missingIn}
-use Rattle.record.specs.Sound.{legalChosen, held}
+use Rattle.parity.specs.Rest.{restOf}
+use Rattle.record.specs.Life.{unitsOf, missingIn}
+use Rattle.record.specs.Sound.{held}
 use Rattle.array.proofs.Frames.{cell-put-length, cell-put-same, cell-put-other}
 use Rattle.stripe.proofs.Bytes.{bytes, sum-xor}
 use Rattle.stripe.proofs.Heart.{heart}
@@ -32,8 +33,7 @@ use Rattle.stripe.specs.Blocks.{changed}
 use Rattle.stripe.specs.Group.{sumTo, others as otherOnes}
 use Rattle.stripe.specs.Invariant.{Idle}
 use Rattle.history.specs.Account.{Account}
-use Rattle.history.specs.Row.{restOf}
-use Rattle.history.specs.World.{World, recordAt}
+use Rattle.history.specs.World.{World}
 use Rattle.history.proofs.Carried.{marks, GoesOn, RestsAnew, carried-sure, same-cells}
 use Rattle.history.proofs.Facts.{bounds}
 use Rattle.history.proofs.Invariant.{Sure, Resting, cellsOf}
@@ -118,26 +118,24 @@ module _ (w : World) (a : Account) (sure : Sure w a) (c t : ℕ) (ht : t < w .st
       heart bytes n .decayed-idle y _ _ (cellsOf st (filled w c t) t b) (λ p l d. filled-cells b hb p l)
       (heart bytes n .put-right x y _ _ (omega (arith, x-below)) (sure .resting t ht idle b hb))
 
-  -- the state st′ afterwards: of the same geometry; in every other stripe the missing card stays or was none; and it knows the chosen-with cards of
-  -- the stripe's records
+  -- the state st′ afterwards: of the same geometry; and in every other stripe the missing card stays or was none
   module _ (st′ : State) (same : geometryOf st′ ≡ geometryOf st) (within : beyondState st′ ≡ false) (whole : st′ .lost ≡ 0)
       (idle : held (w .table) t ≡ false)
       (stays : (s : ℕ) → s < st .stripes → ¬ (s ≡ t) → (outIn st′ s ≡ outIn st s) ⊎ (outIn st s ≡ none))
-      (known : (i : ℕ) → i < st .records → isFree (recordAt w i) ≡ false → recordAt w i .stripe ≡ t → legalChosen st′ (recordAt w i) ≡ true)
     where
       rests-now : Resting st′ (filled w c t) (a .row) t
       unfolding rowOf
       rests-now =
           subst
           (λ (g : Geometry). (b : ℕ) → b < g .block
-          → Idle bytes (unitsOf (marks g none 0)) (missingIn st′ t) (rowOf (marks g none 0) (a .row) t b) (cellsOf (marks g none 0) (filled w c t) t b))
+          → Idle bytes (unitsOf (marks g none 0 noFill)) (missingIn st′ t) (rowOf (marks g none 0 noFill) (a .row) t b) (cellsOf (marks g none 0 noFill) (filled w c t) t b))
           (sym same) (rests idle (missingIn st′ t))
 
       each : (s : ℕ) → s < st .stripes → GoesOn w a st′ (filled w c t) s ⊎ RestsAnew w a st′ (filled w c t) s
       each s hs = go (ℕ-discrete s t)
         where
           go : Dec (s ≡ t) → GoesOn w a st′ (filled w c t) s ⊎ RestsAnew w a st′ (filled w c t) s
-          go (yes e) = inr (rw e (record { idle = idle; rests = rests-now; known = known }))
+          go (yes e) = inr (rw e (record { idle = idle; rests = rests-now }))
           go (no d) =
               inl (record {
                 stays = stays s hs d;

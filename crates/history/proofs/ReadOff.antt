@@ -23,10 +23,11 @@ use Rattle.geometry.specs.Placing.{Placing}
 use Rattle.geometry.specs.Store.{cellAt, imageSize}
 use Rattle.geometry.specs.declared.State.{State}
 use Rattle.parity.specs.Parity.{byteAt, parityByte}
+use Rattle.parity.specs.Rest.{restOf}
 use Rattle.record.specs.Life.{unitsOf, missingIn}
 use Rattle.stripe.proofs.Bytes.{bytes}
 use Rattle.stripe.specs.Invariant.{Idle}
-use Rattle.history.specs.Row.{blockAt, restOf, openedRow}
+use Rattle.history.specs.Row.{blockAt, openedRow}
 use Rattle.history.proofs.Invariant.{cellsOf}
 use Rattle.history.proofs.Places.{block-stripe, block-unit, unit-below, stripe-below}
 use Rattle.history.proofs.Positions.{parity-sum, rest-sum}

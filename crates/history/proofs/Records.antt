@@ -2,19 +2,21 @@
 -- Assumes nothing.
 use Prim.Native.Nat.{ℕ, _+_, _*_, _^_, _<_}
 use mathlib.Core.Bool.{Bool, true, false, cond, not, _&&_, _||_}
-use mathlib.Core.Path.{_≡_, refl, sym, ap}
+use mathlib.Core.Logic.{_⊎_, inl, inr, ⊎-elim}
+use mathlib.Core.Path.{_≡_, refl, sym, ap, _∙_}
 use native.Mathlib.Omega.{arith}
 use borrow.Author.Tests.{eq-eqb, eqb-false, ltb-true, le-leb, not-true}
 use lib.Dec.{ltb, leb, eqb}
 use Rattle.terms.specs.Sets.{within}
 use Rattle.terms.proofs.Rows.{and-left, and-right, and-both}
-use Rattle.geometry.specs.Limits.{none}
+use Rattle.geometry.proofs.Missing.{out-legal}
+use Rattle.geometry.specs.Limits.{none, beyondState}
 use Rattle.geometry.specs.Placement.{outIn}
 use Rattle.geometry.specs.declared.State.{State}
 use Rattle.graph.proofs.Laws.{closed-none}
 use Rattle.graph.specs.Choice.{choose}
 use Rattle.graph.specs.Order.{after, complete}
-use Rattle.record.specs.Life.{isWrite, unitsOf, chosenAt, missingIn, admitted, stepped, afresh}
+use Rattle.record.specs.Life.{isOpen, isWrite, unitsOf, chosenAt, missingIn, admitted, stepped, afresh}
 use Rattle.record.specs.Sound.{legalMask, legalChosen, rightGraph, rightSteps, lacksNone, rightCount}
 use Rattle.record.specs.declared.Record.{Record}
 use Rattle.stripe.proofs.Chosen.{Chosen, degraded-read, plain-read, parity-failed, large-write, reconstruct-out, small-out, small-none, reconstruct-none, chosen}
@@ -22,7 +24,7 @@ use Rattle.stripe.proofs.Heart.{numbers}
 use Rattle.stripe.specs.Invariant.{Proper}
 use Rattle.stripe.specs.Request.{begun, advanced, chosenAfresh}
 use Rattle.history.proofs.Invariant.{requestOf}
-use Rattle.record.proofs.Clauses.{Fit}
+use Rattle.record.proofs.Clauses.{Fit, chosen-none, chosen-missing, chosen-any, open-chosen}
 
 -- a legal mask as facts
 pub mask-some : (n mask : ℕ) → legalMask n mask ≡ true → ¬ (mask ≡ 0)
@@ -65,15 +67,6 @@ pub request-afresh : (st : State) (r : Record)
 unfolding afresh chosenAfresh
 request-afresh st r = refl
 
--- the chosen-with card is the one that is missing now
-chosen-now : (st : State) (r : Record) → r .chosen ≡ outIn st (r .stripe) → legalChosen st r ≡ true
-unfolding legalChosen
-chosen-now st r e = go (eqb (r .chosen) none)
-  where
-    go : (t : Bool) → (t || eqb (r .chosen) (outIn st (r .stripe))) ≡ true
-    go true = refl
-    go false = eq-eqb (r .chosen) (outIn st (r .stripe)) e
-
 pub admitted-fit : (st : State) (write : Bool) (s mask : ℕ) → s < st .stripes → legalMask (unitsOf st) mask ≡ true
     → Fit st (admitted st write s mask)
 unfolding admitted begun rightGraph rightSteps rightCount lacksNone
@@ -84,7 +77,7 @@ admitted-fit st write s mask h m =
       stripe-below = h;
       mask-legal = m;
       graph-legal = choice-legal (unitsOf st) mask (missingIn st s) write;
-      chosen-legal = chosen-now st (admitted st write s mask) refl;
+      chosen-legal = chosen-missing st (admitted st write s mask) refl refl;
       right-graph = eq-eqb (choose (unitsOf st) write mask (missingIn st s)) _ (ap (λ (w : Bool). choose (unitsOf st) w mask (missingIn st s)) (sym (same write)));
       right-steps = closed-none (unitsOf st) (choose (unitsOf st) write mask (missingIn st s)) mask (missingIn st s);
       right-count = and-both _ (leb 0 (2 * unitsOf st + 2))
@@ -109,21 +102,43 @@ admitted-fit st write s mask h m =
     same true = refl
     same false = refl
 
-pub stepped-fit : (st : State) (r : Record) (k x : ℕ) → Fit st r → Proper (unitsOf st) x (requestOf st (stepped st r k)) → Fit st (stepped st r k)
-unfolding stepped legalChosen rightGraph rightSteps rightCount lacksNone
-stepped-fit st r k x f p =
+pub stepped-fit : (st : State) (r : Record) (k x : ℕ) → beyondState st ≡ false → isOpen r ≡ true → Fit st r
+    → Proper (unitsOf st) x (requestOf st (stepped st r k)) → Fit st (stepped st r k)
+unfolding stepped rightGraph rightSteps rightCount lacksNone
+stepped-fit st r k x limits o f p =
     record {
       going = going (complete (unitsOf st) (r .graph) (r .mask) (chosenAt st r) (after (r .done) k));
       kind = f .kind;
       stripe-below = f .stripe-below;
       mask-legal = f .mask-legal;
       graph-legal = f .graph-legal;
-      chosen-legal = f .chosen-legal;
+      chosen-legal = known (complete (unitsOf st) (r .graph) (r .mask) (chosenAt st r) (after (r .done) k)) (open-chosen st r o (f .chosen-legal));
       right-graph = f .right-graph;
       right-steps = p .in-order;
       right-count = counted (complete (unitsOf st) (r .graph) (r .mask) (chosenAt st r) (after (r .done) k)) refl;
     }
   where
+    -- the record after it, finished or not
+    next : Bool → Record
+    next t =
+        record {
+          phase = cond t 2 1;
+          write = r .write;
+          stripe = r .stripe;
+          mask = r .mask;
+          graph = r .graph;
+          chosen = r .chosen;
+          done = after (r .done) k;
+          count = r .count + 1;
+        }
+
+    -- a finished one's card is any that was out
+    known : (t : Bool) → (r .chosen ≡ none) ⊎ (r .chosen ≡ outIn st (r .stripe)) → legalChosen st (next t) ≡ true
+    known t (inl e) = chosen-none st (next t) e
+    known false (inr e) = chosen-missing st (next false) refl e
+    known true (inr e) =
+        ⊎-elim (λ l. chosen-any st (next true) refl (omega (arith, e, l))) (λ z. chosen-none st (next true) (e ∙ z)) (out-legal st limits (r .stripe))
+
     going : (t : Bool) → (eqb (cond t 2 1) 1 || eqb (cond t 2 1) 2) ≡ true
     going true = refl
     going false = refl
@@ -144,7 +159,7 @@ afresh-fit st r x f p =
       stripe-below = f .stripe-below;
       mask-legal = f .mask-legal;
       graph-legal = choice-legal (unitsOf st) (r .mask) y (isWrite r);
-      chosen-legal = chosen-now st (afresh st r) refl;
+      chosen-legal = chosen-missing st (afresh st r) refl refl;
       right-graph = eq-eqb (choose (unitsOf st) (isWrite r) (r .mask) y) (choose (unitsOf st) (isWrite r) (r .mask) y) refl;
       right-steps = closed-none (unitsOf st) (choose (unitsOf st) (isWrite r) (r .mask) y) (r .mask) y;
       right-count = and-both _ (leb (r .count + 1) (2 * unitsOf st + 2)) (ap not wanting)

@@ -8,9 +8,11 @@ use mathlib.Core.Logic.{_⊎_}
 use mathlib.Core.Path.{_≡_, refl, sym, ap, _∙_}
 use lib.ListN.{set}
 use Rattle.terms.specs.Reply.{accepted, refused}
-use Rattle.geometry.specs.Limits.{none}
-use Rattle.geometry.specs.Report.{reportRefusal, marked}
+use Rattle.geometry.specs.Fill.{startRefusal, movedOn}
+use Rattle.geometry.specs.Limits.{none, noFill, underWay}
+use Rattle.geometry.specs.Report.{reportRefusal, marked, withFill}
 use Rattle.parity.specs.Parity.{rightParity}
+use Rattle.parity.specs.Rest.{restored}
 use Rattle.record.specs.Life.{free, isOpen, isFinished, isWrite, missingIn, unitsOf, admitted, stepped, afresh}
 use Rattle.record.specs.Sound.{held, lowestFree}
 use Rattle.array.proofs.Admissions as admissions
@@ -18,9 +20,13 @@ use Rattle.array.proofs.Admissions.{Admitting, admitNumber}
 use Rattle.array.proofs.Collections as collections
 use Rattle.array.proofs.Collections.{Collecting, collectNumber}
 use Rattle.array.proofs.Lent.{Right}
+use Rattle.array.proofs.Rebuildings as rebuildings
+use Rattle.array.proofs.Rebuildings.{Fills, rebuildNumber}
 use Rattle.array.proofs.Reports as reports
 use Rattle.array.proofs.Reports.{Reports}
 use Rattle.array.proofs.Scannings as scannings
+use Rattle.array.proofs.Starts as starts
+use Rattle.array.proofs.Starts.{Starts}
 use Rattle.array.proofs.Steppings as steppings
 use Rattle.array.proofs.Steppings.{Ready, stepNumber}
 use Rattle.array.specs.Admission.{keepUnits}
@@ -28,7 +34,7 @@ use Rattle.array.specs.Collection.{handOver}
 use Rattle.array.specs.Refusals.{resultShort, stepReady}
 use Rattle.array.specs.Stepping.{accepting, meetsOut, workAfter, imageAfter}
 use Rattle.graph.specs.Steps.{stepOf}
-use Rattle.history.specs.World.{World, Event, admit, step, report, collect, scan, play, recordAt}
+use Rattle.history.specs.World.{World, Event, admit, step, report, collect, scan, start, rebuild, play, recordAt}
 
 module _ (w : World) where
   pub admit-number : (write : Bool) (s mask : ℕ) (payload : List ℕ)
@@ -43,6 +49,14 @@ module _ (w : World) where
   report-number : (c : ℕ) → play w (report c) .reply .number ≡ reportRefusal (w .state) c
   unfolding play
   report-number c = reports.report-number (w .state) c
+
+  start-number : play w start .reply .number ≡ startRefusal (w .state)
+  unfolding play
+  start-number = starts.start-number (w .state)
+
+  pub rebuild-number : play w rebuild .reply .number ≡ rebuildNumber (w .state) (w .table) (w .image)
+  unfolding play
+  rebuild-number = rebuildings.rebuild-number (w .state) (w .table) (w .image)
 
   pub step-number : (i k : ℕ) → play w (step i k) .reply .number ≡ stepNumber (w .state) (w .table) (w .work) (w .image) i k
   unfolding play
@@ -113,6 +127,37 @@ module _ (w : World) where
     unfolding play
     report-taken = rw (reports.report-accepted (w .state) c (sym (report-number c) ∙ ok))
 
+  module _ (ok : play w start .reply .number ≡ 0) where
+    pub start-tests : Starts (w .state)
+    start-tests = starts.start-passed (w .state) (sym start-number ∙ ok)
+
+    pub start-taken : play w start
+        ≡ record {
+          reply = accepted 0 0;
+          world = record { state = withFill (w .state) 0; table = w .table; work = w .work; image = w .image };
+          result = [];
+        }
+    unfolding play
+    start-taken = rw (starts.start-accepted (w .state) (sym start-number ∙ ok))
+
+  module _ (ok : play w rebuild .reply .number ≡ 0) where
+    pub rebuild-tests : Fills (w .state) (w .table) (w .image)
+    rebuild-tests = rebuildings.rebuild-passed (w .state) (w .table) (w .image) (sym rebuild-number ∙ ok)
+
+    pub rebuild-taken : play w rebuild
+        ≡ record {
+          reply = accepted (w .state .fill) 0;
+          world = record {
+            state = movedOn (w .state);
+            table = w .table;
+            work = w .work;
+            image = restored (w .state) (w .image) (w .state .out) (w .state .fill);
+          };
+          result = [];
+        }
+    unfolding play
+    rebuild-taken = rw (rebuildings.rebuild-accepted (w .state) (w .table) (w .image) (sym rebuild-number ∙ ok))
+
   module _ (i : ℕ) (result : List ℕ) (ok : play w (collect i result) .reply .number ≡ 0) where
     pub collect-tests : Collecting (w .state) (w .table) (w .work) i result
     collect-tests = collections.collect-passed (w .state) (w .table) (w .work) i result (sym (collect-number i result) ∙ ok)
@@ -145,6 +190,13 @@ module _ (w : World) where
       left : play w (step i k) ≡ record { reply = refused (stepNumber (w .state) (w .table) (w .work) (w .image) i k); world = w; result = [] }
       left = unfold play in rw (steppings.step-refused (w .state) (w .table) (w .work) (w .image) i k (λ z. d (step-number i k ∙ z)))
 
+  pub rebuild-left : ¬ (play w rebuild .reply .number ≡ 0)
+      → play w rebuild ≡ record { reply = refused (play w rebuild .reply .number); world = w; result = [] }
+  rebuild-left d = left ∙ ap (λ (m : ℕ). record { reply = refused m; world = w; result = [] }) (sym rebuild-number)
+    where
+      left : play w rebuild ≡ record { reply = refused (rebuildNumber (w .state) (w .table) (w .image)); world = w; result = [] }
+      left = unfold play in rw (rebuildings.rebuild-refused (w .state) (w .table) (w .image) (λ z. d (rebuild-number ∙ z)))
+
   pub refused-leaves : (e : Event) → ¬ (play w e .reply .number ≡ 0) → play w e .world ≡ w
   refused-leaves (admit write s mask payload) d = rw (admit-left write s mask payload d)
   refused-leaves (step i k) d = rw (step-left i k d)
@@ -152,8 +204,10 @@ module _ (w : World) where
   refused-leaves (collect i result) d =
       unfold play in rw (collections.collect-refused (w .state) (w .table) (w .work) i result (λ z. d (collect-number i result ∙ z)))
   refused-leaves scan d = unfold play in refl
+  refused-leaves start d = unfold play in rw (starts.start-refused (w .state) (λ z. d (start-number ∙ z)))
+  refused-leaves rebuild d = rw (rebuild-left d)
 
-  -- ---- what is lent is right: no call is refused by 1 to 4, and when a step, a collect and a scan are accepted
+  -- ---- what is lent is right: no call is refused by 1 to 4, and when the others are accepted
 
   module _ (right : Right (w .state) (w .table) (w .work) (w .image)) where
     pub lent : (e : Event) → (play w e .reply .number ≡ 0) ⊎ (4 < play w e .reply .number)
@@ -164,6 +218,24 @@ module _ (w : World) where
     lent (collect i result) = rw (collect-number i result) (collections.collect-lently (w .state) (w .table) (w .work) i result (w .image) right)
     lent scan =
         unfold play in rw (scannings.scan-number (w .state) (w .table) (w .image)) (scannings.scan-lently (w .state) (w .table) (w .image) (w .work) right)
+    lent start = rw start-number (starts.start-lently (w .state) (right .limits) (right .whole))
+    lent rebuild = rw rebuild-number (rebuildings.rebuild-lently (w .state) (w .table) (w .image) (w .work) right)
+
+    pub start-grants : ¬ (w .state .out ≡ none) → w .state .fill ≡ noFill → play w start .reply .number ≡ 0
+    start-grants one-out still =
+        start-number ∙ starts.start-granted (w .state) (record { limits = right .limits; whole = right .whole; one-out = one-out; still = still })
+
+    -- the stripe at the fill place is held, or it is not
+    pub rebuild-grants : underWay (w .state) ≡ true → held (w .table) (w .state .fill) ≡ false → play w rebuild .reply .number ≡ 0
+    rebuild-grants way idle = rebuild-number ∙ rebuildings.rebuild-granted (w .state) (w .table) (w .image) (w .work) right way idle
+
+    pub rebuild-waits : underWay (w .state) ≡ true → held (w .table) (w .state .fill) ≡ true → play w rebuild .reply .number ≡ 8
+    rebuild-waits way busy = rebuild-number ∙ rebuildings.rebuild-held (w .state) (w .table) (w .image) (w .work) right way busy
+
+    pub rebuild-idle : play w rebuild .reply .number ≡ 0 → held (w .table) (w .state .fill) ≡ false
+    rebuild-idle ok =
+        let tests = rebuild-tests ok in
+        sym (rebuildings.idle-seen (w .state) (w .table) (w .image) (w .work) right (tests .way)) ∙ tests .seen-idle
 
     pub step-grants : (i k : ℕ) → i < w .state .records → isOpen (recordAt w i) ≡ true → stepReady (w .state) (recordAt w i) k ≡ true
         → play w (step i k) .reply .number ≡ 0

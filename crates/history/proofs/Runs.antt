@@ -15,7 +15,7 @@ use Rattle.history.specs.History.{History, openedAccount, Whole}
 use Rattle.history.specs.History.{opened as begin, next}
 use Rattle.history.specs.Promise.{Idle, blocksRead, Keeps}
 use Rattle.history.specs.Row.{openedRow, writtenRow, unitIn, gathered, unitsOfRow}
-use Rattle.history.specs.World.{World, Event, admit, step, report, collect, scan, Outcome, Engine, withImage}
+use Rattle.history.specs.World.{World, Event, admit, step, report, collect, scan, start as startFill, rebuild, Outcome, Engine, withImage}
 use Rattle.history.proofs.Compute.{computed}
 
 -- four cards with units 11, 22, 44 and their parity, none out; two records
@@ -67,6 +67,8 @@ kindOf (step i k) = 2
 kindOf (report c) = 3
 kindOf (collect i result) = 4
 kindOf scan = 0
+kindOf startFill = 0
+kindOf rebuild = 0
 
 unfoldable pub recordOf : Event → ℕ
 recordOf (admit write s mask payload) = 0
@@ -74,6 +76,8 @@ recordOf (step i k) = i
 recordOf (report c) = 0
 recordOf (collect i result) = i
 recordOf scan = 0
+recordOf startFill = 0
+recordOf rebuild = 0
 
 -- an accepted call of a kind
 abbrev pub accepts : ℕ → Event → Outcome → Bool

@@ -12,7 +12,8 @@ use Rattle.terms.specs.Reply.{Reply, row, firstRow, accepted, refusedOr13, onAc
 use Rattle.terms.proofs.Rows.{and-left, and-right}
 use Rattle.terms.proofs.Sets.{lowest-le}
 use Rattle.geometry.proofs.Bounds.{within-limits}
-use Rattle.geometry.specs.Limits.{none, beyond, beyondState, isLost, geometryOf}
+use Rattle.geometry.proofs.States.{state-bounds}
+use Rattle.geometry.specs.Limits.{none, beyond, beyondState, isLost}
 use Rattle.geometry.proofs.Missing.{out-none}
 use Rattle.geometry.specs.Placement.{outIn}
 use Rattle.geometry.specs.Store.{imageWrong, workWrong}
@@ -88,7 +89,7 @@ open-hit false false false e = absurd (omega arith)
 module _ (st : State) (image image′ : List ℕ) (same : Decayed st image image′) where
   -- within the limits 255 is no card
   none-out : beyondState st ≡ false → st .out ≡ none → (s : ℕ) → ¬ (outIn st s < st .cards)
-  none-out limits out s h = omega (arith, out-none st s out, within-limits (geometryOf st) (st .out) limits .cards-high)
+  none-out limits out s h = omega (arith, out-none st s out, state-bounds st limits .cards-high)
 
   module _ (table : List Record) where
     abbrev v : Survey

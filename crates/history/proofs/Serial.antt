@@ -2,32 +2,32 @@
 -- "finished", "taken singly" and "give" mean stands in specs/Serial.antt. It holds of every engine that keeps the promise, and so of ours: the
 -- account keeps the books of the replay, whatever the engine, and the promise says that the array is as the account says.
 -- Assumes nothing.
-use Prim.Native.Nat.{ℕ, _*_, _-_}
+use Prim.Native.Nat.{ℕ, _+_, _*_, _-_}
 use mathlib.Core.Bool.{Bool, true, false, cond, not, _&&_}
 use mathlib.Core.List.{List, [], _∷_, _++_}
 use mathlib.Core.Logic.{_⊎_, inl, inr}
 use mathlib.Core.Path.{_≡_, refl, sym, ap, ap₂, subst, _∙_}
 use native.Mathlib.Omega.{arith}
 use borrow.Author.Tests.{eqb-true, eqb-false, eq-eqb, ne-eqb}
-use lib.Dec.{eqb}
+use lib.Dec.{ltb, eqb}
 use lib.ListN.{length, drop}
 use Rattle.terms.specs.Lists.{part}
 use Rattle.terms.specs.Sets.{bit}
 use Rattle.terms.proofs.Rows.{truth}
-use Rattle.geometry.specs.Limits.{none}
+use Rattle.geometry.specs.Limits.{none, noFill}
 use Rattle.geometry.specs.Placement.{stripeOf, unitOf, blockOf}
-use Rattle.geometry.specs.Report.{withOut, withLost}
+use Rattle.geometry.specs.Report.{withOut, withLost, withFill}
 use Rattle.geometry.specs.declared.State.{State}
 use Rattle.record.specs.Life.{isFinished}
 use Rattle.array.specs.Lent.{rank}
 use Rattle.stripe.specs.Blocks.{changed}
 use Rattle.stripe.proofs.Sums.{changed-same, changed-other}
-use Rattle.history.specs.Account.{Account, Entry, vacant, requested, counted, withEntry, stepNoted, reported, entered, noted}
+use Rattle.history.specs.Account.{Account, Entry, vacant, requested, counted, withEntry, stepNoted, reported, filledAt, entered, noted}
 use Rattle.history.specs.History.{History, opened, next, decayed, openedAccount, Whole}
 use Rattle.history.specs.Promise.{Promise, Keeps}
 use Rattle.history.specs.Row.{gathered, unitsOfRow, unitIn, writtenRow}
 use Rattle.history.specs.Serial.{Request, rowAfter, bytesOf, Gave, replay, latest, requestAt, finishes, finishedOf, replayOf, HandsOver, HandedOver, Serial, firstOf, seenOf}
-use Rattle.history.specs.World.{World, Event, admit, step, report, collect, scan, Outcome, Engine, play, recordAt}
+use Rattle.history.specs.World.{World, Event, admit, step, report, collect, scan, start, rebuild, Outcome, Engine, play, recordAt}
 use Rattle.history.proofs.Books.{whole-call}
 use Rattle.history.proofs.Demand3.{demand-3}
 
@@ -165,10 +165,19 @@ module _ (first a : Account) (rs : List Request) (books : Books first a rs) wher
   unfolding reported
   reports c = go (eqb (a .state .out) none) (eqb c (a .state .out))
     where
-      go : (t u : Bool) → Books first (record { state = cond t (withOut (a .state) c) (cond u (a .state) (withLost (a .state))); row = a .row; entry = a .entry }) rs
+      go : (t u : Bool) → Books first (record { state = cond t (withOut (a .state) c) (cond u (withFill (a .state) noFill) (withLost (a .state))); row = a .row; entry = a .entry }) rs
       go true u = restated (withOut (a .state) c) refl refl
-      go false true = books
+      go false true = restated (withFill (a .state) noFill) refl refl
       go false false = restated (withLost (a .state)) refl refl
+
+  -- a rebuild step that answers stripe s
+  fills : (s : ℕ) → Books first (record { state = filledAt (a .state) s; row = a .row; entry = a .entry }) rs
+  unfolding filledAt
+  fills s = go (ltb (s + 1) (a .state .stripes))
+    where
+      go : (t : Bool) → Books first (record { state = cond t (withFill (a .state) (s + 1)) (withOut (withFill (a .state) noFill) none); row = a .row; entry = a .entry }) rs
+      go true = restated (withFill (a .state) (s + 1)) refl refl
+      go false = restated (withOut (withFill (a .state) noFill) none) refl refl
 
   -- an accepted call may alter the books, and a refused one does not
   answered : (t : Bool) (made : Account) → Books first made rs → Books first (cond t made a) rs
@@ -190,6 +199,8 @@ module _ (first a : Account) (rs : List Request) (books : Books first a rs) wher
   call-books (collect i result) o =
       answered (eqb (o .reply .number) 0) _ (enters i vacant (unfold vacant in refl) (unfold vacant in (λ f. omega arith)))
   call-books scan o = answered (eqb (o .reply .number) 0) _ books
+  call-books start o = answered (eqb (o .reply .number) 0) _ (restated (withFill (a .state) 0) refl refl)
+  call-books rebuild o = answered (eqb (o .reply .number) 0) _ (fills (o .reply .first))
 
 -- at the end of every history, of any engine
 pub kept-books : {engine : Engine} {w : World} {a : Account} (h : History engine w a) → Books (firstOf h) a (finishedOf (seenOf h))
@@ -223,6 +234,8 @@ module _ (engine : Engine) (keeps : Keeps engine) where
       p .collects i result ok
       ∙ ap (λ (l : List ℕ). l ++ drop (length l) result) (kept-books h .same-due i .of-finished (p .collects-finished i result ok .1))
   hands-over h whole scan = tt
+  hands-over h whole start = tt
+  hands-over h whole rebuild = tt
 
   handed-over : {w : World} {a : Account} (h : History engine w a) → Whole a → HandedOver (firstOf h) (seenOf h)
   unfolding HandedOver firstOf seenOf noted

@@ -23,12 +23,13 @@ use Rattle.geometry.specs.Placement.{cardOfPosition, positionOfCard, cardOfBloc
 use Rattle.geometry.specs.Placing.{Placing}
 use Rattle.geometry.specs.declared.State.{State}
 use Rattle.parity.specs.Parity.{parityByte}
+use Rattle.parity.specs.Rest.{restOf}
 use Rattle.record.specs.Life.{unitsOf}
 use Rattle.record.specs.Sound.{held}
 use Rattle.stripe.proofs.Bytes.{sum-xor}
 use Rattle.stripe.specs.Invariant.{IsRow}
 use Rattle.history.specs.Account.{Account}
-use Rattle.history.specs.Row.{blockAt, restOf, parityOfRow}
+use Rattle.history.specs.Row.{blockAt, parityOfRow}
 use Rattle.history.specs.World.{World, scan, play}
 use Rattle.history.proofs.Facts.{bounds}
 use Rattle.history.proofs.Invariant.{Sure, cellsOf}

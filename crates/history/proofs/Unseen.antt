@@ -12,10 +12,10 @@ use Rattle.geometry.specs.Placement.{outIn}
 use Rattle.geometry.specs.Store.{imageWrong, imageSize}
 use Rattle.geometry.specs.declared.State.{State}
 use Rattle.parity.specs.Parity.{byteAt, parityByte, wrongByte, wrongStripe, rightParity, disagreement}
-use Rattle.array.specs.Refusals.{admitRefusal, stepRefusal}
+use Rattle.array.specs.Refusals.{admitRefusal, stepRefusal, rebuildRefusal}
 use Rattle.history.specs.History.{Decayed}
-use Rattle.history.specs.World.{World, admit, step, play, withImage}
-use Rattle.history.proofs.Replies.{admit-number, step-number}
+use Rattle.history.specs.World.{World, admit, step, rebuild, play, withImage}
+use Rattle.history.proofs.Replies.{admit-number, step-number, rebuild-number}
 
 -- two images of a state that agree on the cards that work
 module _ (st : State) (image image′ : List ℕ) (same : Decayed st image image′) where
@@ -58,7 +58,7 @@ module _ (st : State) (image image′ : List ℕ) (same : Decayed st image image
     disagreement-same pass h =
         rw (wrong-stripe-same pass, wrong-byte-same (wrongStripe (st .cards) (st .stripes) (st .block) image pass) h)
 
--- an admission and a step are refused for both or for neither
+-- an admission, a step and a rebuild step are refused for both or for neither
 module _ (w : World) (image′ : List ℕ) (same : Decayed (w .state) (w .image) image′) where
   pub admit-same : (write : Bool) (s mask : ℕ) (payload : List ℕ)
       → play (withImage w image′) (admit write s mask payload) .reply .number ≡ play w (admit write s mask payload) .reply .number
@@ -69,3 +69,7 @@ module _ (w : World) (image′ : List ℕ) (same : Decayed (w .state) (w .image)
   pub step-same : (i k : ℕ) → play (withImage w image′) (step i k) .reply .number ≡ play w (step i k) .reply .number
   unfolding stepRefusal
   step-same i k = step-number (withImage w image′) i k ∙ rw (wrong-same (w .state) (w .image) image′ same) (sym (step-number w i k))
+
+  pub rebuild-same : play (withImage w image′) rebuild .reply .number ≡ play w rebuild .reply .number
+  unfolding rebuildRefusal
+  rebuild-same = rebuild-number (withImage w image′) ∙ rw (wrong-same (w .state) (w .image) image′ same) (sym (rebuild-number w))

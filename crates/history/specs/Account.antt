@@ -4,15 +4,15 @@
 use Prim.Native.Nat.{ℕ, _+_}
 use mathlib.Core.Bool.{Bool, false, cond, not, _&&_}
 use mathlib.Core.List.{List, []}
-use lib.Dec.{eqb}
+use lib.Dec.{ltb, eqb}
 use Rattle.terms.specs.Reply.{onAccept}
-use Rattle.geometry.specs.Limits.{none}
-use Rattle.geometry.specs.Report.{withOut, withLost}
+use Rattle.geometry.specs.Limits.{none, noFill}
+use Rattle.geometry.specs.Report.{withOut, withLost, withFill}
 use Rattle.geometry.specs.declared.State.{State}
 use Rattle.record.specs.Life.{isFinished}
 use Rattle.stripe.specs.Blocks.{changed}
 use Rattle.history.specs.Row.{writtenRow, unitsOfRow}
-use Rattle.history.specs.World.{World, Event, admit, step, report, collect, scan, Outcome, Engine, recordAt}
+use Rattle.history.specs.World.{World, Event, admit, step, report, collect, scan, start, rebuild, Outcome, Engine, recordAt}
 
 -- what is noted at a record number: 0, no request (none yet, or it was collected), 1, one that is open, or 2, one that is finished; the
 -- request; the accepted steps since its admission; the bytes that it should give, none before it is finished and none for a write
@@ -25,7 +25,8 @@ pub record Entry : Type 0 where
   pub steps : ℕ
   pub due : List ℕ
 
--- the geometry as opened, the card out as opened or reported, and whether a second one was; the row by block number; the entries by record number
+-- the geometry as opened, the card out as opened, reported or filled, whether a second one was reported, and the stripe to be filled next; the row
+-- by block number; the entries by record number
 pub record Account : Type 0 where
   pub state : State
   pub row : ℕ → List ℕ
@@ -67,9 +68,14 @@ stepNoted a i last =
       entry = changed (a .entry) i (counted (a .state) (a .row) e last);
     }
 
--- after an accepted report: the first card is out, the same card once more is no news, and a second, different one loses the array
+-- after an accepted report: the first card is out; the same card once more is the fresh one, whose fill is over; and a second, different one loses the
+-- array
 unfoldable pub reported : State → ℕ → State
-reported st c = cond (eqb (st .out) none) (withOut st c) (cond (eqb c (st .out)) st (withLost st))
+reported st c = cond (eqb (st .out) none) (withOut st c) (cond (eqb c (st .out)) (withFill st noFill) (withLost st))
+
+-- after an accepted rebuild step that answers stripe s: the next one is to be filled, and after the last no card is out
+unfoldable pub filledAt : State → ℕ → State
+filledAt st s = cond (ltb (s + 1) (st .stripes)) (withFill st (s + 1)) (withOut (withFill st noFill) none)
 
 -- what an accepted call enters, by what it answered and left. A scan enters nothing
 unfoldable pub entered : Account → Event → Outcome → Account
@@ -78,6 +84,8 @@ entered a (step i k) o = stepNoted a i (isFinished (recordAt (o .world) i))
 entered a (report c) o = record { state = reported (a .state) c; row = a .row; entry = a .entry }
 entered a (collect i result) o = withEntry a i vacant
 entered a scan o = a
+entered a start o = record { state = withFill (a .state) 0; row = a .row; entry = a .entry }
+entered a rebuild o = record { state = filledAt (a .state) (o .reply .first); row = a .row; entry = a .entry }
 
 -- the account after a call; a refused one leaves it
 unfoldable pub noted : Engine → World → Account → Event → Account

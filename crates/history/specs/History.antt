@@ -1,10 +1,10 @@
 -- Histories: an accepted opening, then calls one after the other, and decay of missing blocks at any moment. Nobody else alters anything.
 -- Assumes nothing.
-use Prim.Native.Nat.{ℕ, _<_}
+use Prim.Native.Nat.{ℕ, _+_, _<_}
 use mathlib.Core.Bool.{true, cond}
-use mathlib.Core.List.{List, [], _∷_, _++_}
+use mathlib.Core.List.{List, [], _∷_}
 use mathlib.Core.Path.{_≡_}
-use lib.Dec.{eqb}
+use lib.Dec.{ltb, eqb}
 use lib.ListN.{length}
 use Rattle.terms.specs.Lists.{every}
 use Rattle.terms.specs.Reply.{onAccept}
@@ -18,7 +18,7 @@ use Rattle.array.specs.Opening.{opening}
 use Rattle.array.specs.Refusals.{opened as openedState}
 use Rattle.history.specs.Account.{Account, vacant, noted}
 use Rattle.history.specs.Row.{openedRow}
-use Rattle.history.specs.World.{World, Event, admit, step, report, collect, scan, Engine, withImage}
+use Rattle.history.specs.World.{World, Event, admit, step, report, collect, scan, start, rebuild, Engine, withImage}
 
 -- an image turns to one of the same length that agrees with it on every block that is not missing
 pub record Decayed (st : State) (image image′ : List ℕ) : Type 0 where
@@ -49,26 +49,32 @@ Always P (opened g out table work image ok) = P (openedWorld g out table work im
 Always P {engine} (next {w} {a} h e) = Always P h × P (engine w e .world) (noted engine w a e)
 Always P (decayed {w} {a} h image d) = Always P h × P (withImage w image) a
 
--- ---- at most one card in all
+-- ---- at most one card out at any moment
 
--- the card that a call reports
-unfoldable pub reportedIn : Event → List ℕ
-reportedIn (admit write s mask payload) = []
-reportedIn (step i k) = []
-reportedIn (report c) = c ∷ []
-reportedIn (collect i result) = []
-reportedIn scan = []
+-- the cards that are out after an accepted call, in an array of S stripes: a report adds its card, and the rebuild step that answers the last stripe has
+-- filled the fresh one, so that none is out
+unfoldable pub outAfter : ℕ → Event → ℕ → List ℕ → List ℕ
+outAfter S (admit write s mask payload) first cards = cards
+outAfter S (step i k) first cards = cards
+outAfter S (report c) first cards = c ∷ cards
+outAfter S (collect i result) first cards = cards
+outAfter S scan first cards = cards
+outAfter S start first cards = cards
+outAfter S rebuild s cards = cond (ltb (s + 1) S) cards []
 
--- the cards that were out at the opening or in an accepted report, the latest first
+-- those that are out at the end of a history, by the opening and the answers, the latest first; a fresh card that was reported is there once more
 unfoldable pub cardsOut : {engine : Engine} {w : World} {a : Account} → History engine w a → List ℕ
 cardsOut (opened g out table work image ok) = cond (eqb out none) [] (out ∷ [])
-cardsOut {engine} (next {w} h e) = onAccept (engine w e .reply .number) (reportedIn e) [] ++ cardsOut h
+cardsOut {engine} (next {w} {a} h e) =
+    let o = engine w e in onAccept (o .reply .number) (outAfter (a .state .stripes) e (o .reply .first) (cardsOut h)) (cardsOut h)
 cardsOut (decayed h image d) = cardsOut h
 
--- they are all one card
+-- at every moment they are all one card
 unfoldable pub OneCard : {engine : Engine} {w : World} {a : Account} → History engine w a → Type 0
-OneCard h = (c : ℕ) × (every (λ d. eqb d c) (cardsOut h) ≡ true)
+OneCard (opened g out table work image ok) = Unit {0}
+OneCard (next h e) = OneCard h × ((c : ℕ) × (every (λ d. eqb d c) (cardsOut (next h e)) ≡ true))
+OneCard (decayed h image d) = OneCard h
 
--- the array is not lost, by the account: no second, different card was reported
+-- the array is not lost, by the account: no second, different card was reported while one was out
 unfoldable pub Whole : Account → Type 0
 Whole a = a .state .lost ≡ 0

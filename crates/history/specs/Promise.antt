@@ -1,7 +1,7 @@
 -- Demand 3: what is promised of a world w that an engine reached by a history in which the array was never lost, and of the account a that was
 -- kept beside it. Which request is open or finished, which stripe is idle and which card is out, the account says.
 -- Assumes nothing.
-use Prim.Native.Nat.{ℕ, _+_, _*_, _≤_, _<_}
+use Prim.Native.Nat.{ℕ, zero, suc, _+_, _*_, _≤_, _<_}
 use mathlib.Core.Bool.{Bool, true, false}
 use mathlib.Core.List.{List, _++_}
 use mathlib.Core.Logic.{_⊎_}
@@ -9,17 +9,18 @@ use mathlib.Core.Path.{_≡_}
 use lib.ListN.{length, drop}
 use Rattle.terms.specs.Lists.{part}
 use Rattle.terms.specs.Reply.{accepted}
-use Rattle.geometry.specs.Limits.{none}
-use Rattle.geometry.specs.Placement.{stripeOf, cardOfBlock, cardOfPosition, Missing}
+use Rattle.geometry.specs.Limits.{none, underWay}
+use Rattle.geometry.specs.Placement.{stripeOf, cardOfBlock, cardOfPosition, filled, Missing}
 use Rattle.geometry.specs.Store.{readAt}
 use Rattle.geometry.specs.declared.State.{State}
+use Rattle.parity.specs.Rest.{restOf}
 use Rattle.record.specs.Life.{isWrite, unitsOf}
 use Rattle.record.specs.Sound.{sound}
 use Rattle.record.specs.declared.Record.{Record}
 use Rattle.history.specs.Account.{Account, Entry}
 use Rattle.history.specs.History.{History, Whole}
-use Rattle.history.specs.Row.{blockAt, restOf, gathered, parityOfRow}
-use Rattle.history.specs.World.{World, Event, admit, step, collect, scan, Engine, recordAt}
+use Rattle.history.specs.Row.{blockAt, gathered, parityOfRow}
+use Rattle.history.specs.World.{World, Event, admit, step, collect, scan, start, rebuild, Engine, recordAt}
 
 -- ---- what the account says
 
@@ -47,6 +48,13 @@ Works a c s = ¬ Missing (a .state) c s
 
 abbrev pub Out : Account → ℕ → ℕ → Type 0
 Out a c s = Missing (a .state) c s
+
+-- a fill is under way, and stripe s is filled
+abbrev pub Filling : Account → Type 0
+Filling a = underWay (a .state) ≡ true
+
+abbrev pub Filled : Account → ℕ → Type 0
+Filled a s = filled (a .state) s ≡ true
 
 -- block L of the row, L from 0 to n·S-1: its stripe and its card
 abbrev pub InRow : Account → ℕ → Type 0
@@ -106,6 +114,14 @@ pub record Promise (engine : Engine) (w : World) (a : Account) : Type 0 where
   -- and a missing unit is the exclusive or of the rest
   pub inferred : (L : ℕ) → InRow a L → Idle a (stripeFor a L) → Out a (cardFor a L) (stripeFor a L)
       → restOf (a .state) (w .image) (cardFor a L) (stripeFor a L) ≡ a .row L
+  -- a filled stripe with no open request holds the row and its parity on every card, the fresh one among them
+  pub filled-units : (L : ℕ) → InRow a L → Idle a (stripeFor a L) → Filled a (stripeFor a L)
+      → blockAt (a .state) (w .image) (cardFor a L) (stripeFor a L) ≡ a .row L
+  pub filled-parity : (s : ℕ) → s < a .state .stripes → Idle a s → Filled a s
+      → blockAt (a .state) (w .image) (parityFor a s) s ≡ parityOfRow (a .state) (a .row) s
+  -- while a fill is under way a rebuild step fills the stripe at its place where no open request holds that, and is else refused by 8
+  pub fills : Filling a → Idle a (a .state .fill) → engine w rebuild .reply ≡ accepted (a .state .fill) 0
+  pub waits : Filling a → (engine w rebuild .reply .number ≡ 0) ⊎ (engine w rebuild .reply .number ≡ 8)
   -- with no card out, a scan finds parity right
   pub scans : a .state .out ≡ none → engine w scan .reply ≡ accepted 0 0
   -- no request takes more than 2n+3 accepted steps, and an open one has taken at most 2n+2
@@ -120,3 +136,23 @@ pub record Promise (engine : Engine) (w : World) (a : Account) : Type 0 where
 -- an engine keeps the promise at the end of every history in which the array is never lost
 unfoldable pub Keeps : Engine → Type 0
 Keeps engine = (w : World) (a : Account) → History engine w a → Whole a → Promise engine w a
+
+-- ---- a whole fill
+
+-- the world after a start and so many rebuild steps, with nothing between them
+unfoldable pub rebuilt : Engine → World → ℕ → World
+rebuilt engine w zero = engine w start .world
+rebuilt engine w (suc k) = engine (rebuilt engine w k) rebuild .world
+
+-- the start is accepted; so is each of S rebuild steps, which answers its stripe; after them no card is out, and a scan finds parity right
+pub record Refills (engine : Engine) (w : World) (a : Account) : Type 0 where
+  pub starts : engine w start .reply ≡ accepted 0 0
+  pub steps : (s : ℕ) → s < a .state .stripes → engine (rebuilt engine w s) rebuild .reply ≡ accepted s 0
+  pub none-out : rebuilt engine w (a .state .stripes) .state .out ≡ none
+  pub scans : engine (rebuilt engine w (a .state .stripes)) scan .reply ≡ accepted 0 0
+
+-- where a card is out, no fill is under way and no request is open, an engine brings a fill to its end
+unfoldable pub FillsUp : Engine → Type 0
+FillsUp engine =
+    (w : World) (a : Account) → History engine w a → Whole a
+    → ¬ (a .state .out ≡ none) → underWay (a .state) ≡ false → ((i : ℕ) → ¬ Open a i) → Refills engine w a

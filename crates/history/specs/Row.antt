@@ -11,19 +11,13 @@ use Rattle.terms.specs.Sets.{bit, xorTo}
 use Rattle.geometry.specs.Placement.{stripeOf, unitOf, cardOfBlock, blockOf, outIn}
 use Rattle.geometry.specs.Store.{cellAt}
 use Rattle.geometry.specs.declared.State.{State}
-use Rattle.parity.specs.Parity.{byteAt}
+use Rattle.parity.specs.Rest.{restOf}
 use Rattle.record.specs.Life.{unitsOf}
 use Rattle.array.specs.Lent.{rank}
 
 -- the block of card c in stripe s
 unfoldable pub blockAt : State → List ℕ → ℕ → ℕ → List ℕ
 blockAt st image c s = part (cellAt (st .stripes) (st .block) c s) (st .block) image
-
--- the exclusive or of the blocks of all cards but c in stripe s
-unfoldable pub restOf : State → List ℕ → ℕ → ℕ → List ℕ
-restOf st image c s =
-    tabulate (st .block)
-    (λ b. xorTo (st .cards) (λ d. cond (eqb d c) 0 (byteAt (st .stripes) (st .block) image d s b)))
 
 -- block L as an image has it: on its card, or the exclusive or of the rest where that card is out
 unfoldable pub openedRow : State → List ℕ → ℕ → List ℕ

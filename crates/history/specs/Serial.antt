@@ -9,12 +9,13 @@ use lib.Dec.{eqb}
 use lib.ListN.{length, drop}
 use Rattle.terms.specs.Reply.{onAccept}
 use Rattle.geometry.specs.declared.State.{State}
+use Rattle.parity.specs.Rest.{restOf}
 use Rattle.record.specs.Life.{isFinished}
 use Rattle.history.specs.Account.{Account}
 use Rattle.history.specs.History.{History, opened, next, decayed, openedAccount}
 use Rattle.history.specs.Promise.{Finished, InRow, Idle, Works, Out, stripeFor, cardFor, blocksRead}
-use Rattle.history.specs.Row.{blockAt, restOf, unitsOfRow, writtenRow}
-use Rattle.history.specs.World.{World, Event, admit, step, report, collect, scan, Outcome, Engine, recordAt}
+use Rattle.history.specs.Row.{blockAt, unitsOfRow, writtenRow}
+use Rattle.history.specs.World.{World, Event, admit, step, report, collect, scan, start, rebuild, Outcome, Engine, recordAt}
 
 -- a request as its client made it, and the number of its record
 pub record Request : Type 0 where
@@ -71,6 +72,8 @@ finishes a (step i k) o = onAccept (o .reply .number) (cond (isFinished (recordA
 finishes a (report c) o = []
 finishes a (collect i result) o = []
 finishes a scan o = []
+finishes a start o = []
+finishes a rebuild o = []
 
 -- what a client has seen of a call: its account before it, the call, and the outcome
 pub record Seen : Type 0 where
@@ -95,6 +98,8 @@ HandsOver gave (step i k) o = Unit {0}
 HandsOver gave (report c) o = Unit {0}
 HandsOver gave (collect i result) o = o .reply .number ≡ 0 → o .result ≡ latest i gave ++ drop (length (latest i gave)) result
 HandsOver gave scan o = Unit {0}
+HandsOver gave start o = Unit {0}
+HandsOver gave rebuild o = Unit {0}
 
 -- every accepted collect handed over what the requests that were finished before it give
 unfoldable pub HandedOver : Account → List Seen → Type 0

@@ -10,9 +10,10 @@ use Rattle.terms.specs.Reply.{accepted}
 use Rattle.terms.specs.Sets.{bit, allBelow}
 use Rattle.geometry.specs.Answers.{placeReply, blockAtReply}
 use Rattle.graph.specs.Choice.{choose}
+use Rattle.parity.specs.Rest.{restOf}
 use Rattle.record.specs.Life.{unitsOf}
 use Rattle.history.specs.Examples.{fill, opened, after}
-use Rattle.history.specs.Row.{blockAt, restOf}
+use Rattle.history.specs.Row.{blockAt}
 use Rattle.history.specs.World.{World, admit, step, report, collect, play, recordAt}
 
 -- N = 5: of all masks of 4 units for which the test holds, position x missing (5: none), graph g is chosen for a write

@@ -10,7 +10,9 @@ use Rattle.record.specs.Life.{free}
 use Rattle.record.specs.declared.Record.{Record}
 use Rattle.array.specs.Admission.{admission}
 use Rattle.array.specs.Collection.{collection}
+use Rattle.geometry.specs.Fill.{starting}
 use Rattle.geometry.specs.Report.{reporting}
+use Rattle.array.specs.Rebuilding.{rebuilding}
 use Rattle.array.specs.Scan.{scanReply}
 use Rattle.array.specs.Stepping.{stepping}
 
@@ -40,6 +42,9 @@ pub data Event : Type 0 where
   -- the record, the result buffer as it is lent
   collect : ℕ → List ℕ → Event
   scan : Event
+  -- the start of a fill, and a rebuild step
+  start : Event
+  rebuild : Event
 
 -- what is answered, and the world and the result buffer that are left; no buffer is lent but to collect
 pub record Outcome : Type 0 where
@@ -82,3 +87,17 @@ play w (collect i result) =
       result = a .result;
     }
 play w scan = record { reply = scanReply (w .state) (w .table) (w .image); world = w; result = [] }
+play w start =
+    let a = starting (w .state) in
+    record {
+      reply = a .reply;
+      world = record { state = a .state; table = w .table; work = w .work; image = w .image };
+      result = [];
+    }
+play w rebuild =
+    let a = rebuilding (w .state) (w .table) (w .image) in
+    record {
+      reply = a .reply;
+      world = record { state = a .state; table = w .table; work = w .work; image = a .image };
+      result = [];
+    }

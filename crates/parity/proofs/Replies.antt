@@ -3,19 +3,16 @@
 use Prim.Native.Nat.{ℕ, _<_}
 use mathlib.Core.Bool.{Bool, true, false, cond, not}
 use mathlib.Core.List.{List, [], _∷_}
-use mathlib.Core.Path.{_≡_, refl, sym, ap, _∙_}
+use mathlib.Core.Path.{_≡_, refl, sym, _∙_}
 use native.Mathlib.Omega.{arith}
 use borrow.Author.Tests.{eq-eqb, ne-eqb}
-use lib.ListN.{length, getD, replicate, getD-replicate}
+use lib.ListN.{getD, replicate, getD-replicate}
 use Rattle.terms.specs.Lists.{among}
 use Rattle.terms.specs.Reply.{Reply, accepted, refused, row, firstRow, onAccept, refusedOr13}
-use Rattle.geometry.specs.Asked.{imageSizeIn}
-use Rattle.geometry.specs.Limits.{none, beyondState, isLost, geometryOf}
-use Rattle.geometry.specs.Store.{imageSize, imageWrong}
+use Rattle.geometry.proofs.States.{state-bounds}
+use Rattle.geometry.specs.Limits.{none, beyondState, isLost}
+use Rattle.geometry.specs.Store.{imageWrong}
 use Rattle.geometry.specs.declared.State.{State}
-use Rattle.geometry.proofs.Asked.{imageSizeIn-is}
-use Rattle.geometry.proofs.Bounds.{Bounds, within-limits}
-use Rattle.parity.specs.Fitting.{Fitting}
 use Rattle.parity.specs.Parity.{rightParity, disagreement, looked}
 use Rattle.parity.specs.Scan.{lookRefusal, lookReply, nothingHeld, idleScanRefusal, idleScanReply}
 use Rattle.parity.proofs.Passing.{among-none, looked-cong}
@@ -36,32 +33,6 @@ no-stripe : (k : ℕ) → k < 8 → getD noStripes k 0 ≡ 1024
 no-stripe k l = getD-replicate 8 k 1024 0 l
 
 module _ (st : State) (image : List ℕ) where
-  limits : beyondState st ≡ false → Bounds (st .cards) (st .stripes) (st .block) (st .records)
-  limits e = within-limits (geometryOf st) (st .out) e
-
-  size-is : beyondState st ≡ false → imageSizeIn st ≡ imageSize (st .cards) (st .stripes) (st .block)
-  size-is e = imageSizeIn-is st (limits e)
-
-  -- the image is of the right length, or not
-  pub image-whole : beyondState st ≡ false → length image ≡ imageSizeIn st → imageWrong st image ≡ false
-  unfolding imageWrong
-  image-whole e l = ap not (eq-eqb (length image) (imageSize (st .cards) (st .stripes) (st .block)) (l ∙ size-is e))
-
-  pub image-not-whole : beyondState st ≡ false → (length image ≡ imageSizeIn st → ⊥) → imageWrong st image ≡ true
-  unfolding imageWrong
-  image-not-whole e l =
-      ap not (ne-eqb (length image) (imageSize (st .cards) (st .stripes) (st .block)) (λ q. l (q ∙ sym (size-is e))))
-
-  -- what is left of refusals 1 and 2
-  pub fitting : beyondState st ≡ false → length image ≡ imageSizeIn st → Fitting (st .cards) (st .stripes) (st .block) image
-  fitting e l =
-      record {
-        cards = limits e .cards-high;
-        stripes = limits e .stripes-high;
-        block = limits e .block-high;
-        whole = l ∙ size-is e;
-      }
-
   module _ (pass : ℕ → Bool) where
     pub look-beyond : beyondState st ≡ true → refused 1 ≡ lookReply st image pass
     unfolding lookReply lookRefusal firstRow
@@ -80,7 +51,7 @@ module _ (st : State) (image : List ℕ) where
 
   -- none of them is a stripe
   among-nothing : beyondState st ≡ false → (s : ℕ) → s < st .stripes → among noStripes s ≡ false
-  among-nothing e s h = sym (among-none noStripes s (λ k l q. omega (arith, limits e .stripes-high, no-stripe k l)))
+  among-nothing e s h = sym (among-none noStripes s (λ k l q. omega (arith, state-bounds st e .stripes-high, no-stripe k l)))
 
   pub idle-beyond : beyondState st ≡ true → refused 1 ≡ idleScanReply st image
   unfolding idleScanReply idleScanRefusal firstRow

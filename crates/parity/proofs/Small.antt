@@ -11,9 +11,9 @@ use Rattle.terms.specs.Lists.{every}
 use Rattle.terms.specs.Reply.{Reply, Row, row, accepted, refused, firstRow, onAccept, refusedOr13}
 use Rattle.terms.proofs.Rows.{and-left, and-right}
 use Rattle.terms.proofs.Sets.{lowest-le}
-use Rattle.geometry.specs.Limits.{beyondState, geometryOf}
+use Rattle.geometry.proofs.States.{state-bounds}
+use Rattle.geometry.specs.Limits.{beyondState}
 use Rattle.geometry.specs.declared.State.{State}
-use Rattle.geometry.proofs.Bounds.{within-limits}
 use Rattle.parity.specs.Parity.{parityByte, wrongByte, wrongStripe, disagreement}
 use Rattle.parity.specs.Scan.{nothingHeld, idleScanRefusal, idleScanReply}
 
@@ -71,5 +71,5 @@ unfolding idleScanReply idleScanRefusal every
 idle-small st image =
     scan-small (beyondState st) _ _ refl
     (λ e.
-    let limits = within-limits (geometryOf st) (st .out) e in
+    let limits = state-bounds st e in
     disagreement-small (st .cards) (st .stripes) (st .block) image nothingHeld (limits .stripes-high) (limits .block-high))

@@ -1,8 +1,11 @@
--- What the private functions of this crate ask: of the numbers of an array and its image, once refusals 1 and 2 are tested, and of eight blocks.
+-- What the private functions of this crate ask and go by: the numbers of an array and its image, once refusals 1 and 2 are tested, eight blocks, and the
+-- cards beside one.
 -- Assumes nothing.
-use Prim.Native.Nat.{ℕ, _≤_}
+use Prim.Native.Nat.{ℕ, _+_, _≤_}
+use mathlib.Core.Bool.{cond}
 use mathlib.Core.List.{List, [], _∷_}
 use mathlib.Core.Path.{_≡_}
+use lib.Dec.{ltb}
 use lib.ListN.{length, getD}
 use Rattle.block.specs.Blocks.{zeros}
 use Rattle.geometry.specs.Store.{imageSize}
@@ -33,3 +36,7 @@ pub record LastZero (size : ℕ) (f g h : List ℕ) : Type 0 where
   pub f-zero : f ≡ zeros size
   pub g-zero : g ≡ zeros size
   pub h-zero : h ≡ zeros size
+
+-- the k-th card beside card c, ascending
+unfoldable pub beside : ℕ → ℕ → ℕ
+beside c k = cond (ltb k c) k (k + 1)

@@ -2,3 +2,4 @@
 pub mod Parity
 pub mod Fitting
 pub mod Scan
+pub mod Rest

@@ -1,5 +1,9 @@
-// The parity of stripes in the image, and the scan for the lowest place where it disagrees.
+// The parity of stripes in the image, the scan for the lowest place where it disagrees, and a missing block restored.
 // Assumes nothing.
+pub use rest::restore;
+
+mod rest;
+
 ghost use mathlib.Core.Bool.{false};
 ghost use mathlib.Core.Path.{_≡_};
 ghost use Prim.Native.Nat.{_≤_, _<_};

@@ -189,6 +189,26 @@ impl Desk {
         }
     }
 
+    // Takes a rebuild step, and tells what came of it.
+    pub(crate) fn rebuild(self) -> Desk {
+        let before = self.state;
+        let table = self.table;
+        let work = self.work;
+        let mut image = self.image;
+        let made = array::rebuild(before, table, &mut image);
+        let answer = made.answer;
+        let state = made.state;
+        told::rebuilt(answer, state.out);
+        Desk {
+            state,
+            table,
+            work,
+            image,
+            place: self.place,
+            same: false,
+        }
+    }
+
     // Scans the stripes that no open request holds.
     pub(crate) fn scan(self) -> Scan {
         let state = self.state;

@@ -1,5 +1,6 @@
-// A small race on five cards: eight swimmers touch, a card dies between two steps of a write, and every touch is read back. Each line
-// tells what the library's own calls answered.
+// A small race on five cards: swimmers touch, a card dies between two steps of a write, a spare is filled while touches go on, another card dies, and
+// every touch is read back. Each line tells what the library's own calls answered.
+use bytes::touches_from;
 use desk::Desk;
 use geometry::Geometry;
 use geometry::NONE;
@@ -39,18 +40,26 @@ fn opened() -> Desk {
     }
 }
 
-// The race, from the opening to the last reading, given the first touch of each swimmer and the last.
-fn race(first: &[u8], last: &[u8]) {
+// The race, from the opening to the last reading, given the first touch of each swimmer, the later ones and the last.
+fn race(first: &[u8], later: &[u8], last: &[u8]) {
     let desk = scenes::first_lap(opened(), first);
-    let desk = scenes::card_dies(desk, last);
-    let desk = scenes::race_goes_on(desk, last);
-    scenes::read_back(desk, last);
+    let desk = scenes::card_dies(desk, later);
+    let desk = scenes::race_goes_on(desk, later);
+    scenes::read_back(desk, 8, 4, later);
+    let desk = scenes::spare(desk, last);
+    let desk = scenes::another_dies(desk, 5);
+    scenes::read_back(desk, 10, 5, last);
 }
 
 fn main() {
-    let first =
-        b"chip 01 12:04.31chip 02 12:04.33chip 03 12:04.70chip 04 12:04.98chip 05 12:06.12chip 06 12:06.15chip 07 12:06.40chip 08 12:07.02";
-    let last =
-        b"chip 01 12:04.31chip 02 12:04.30chip 03 12:04.70chip 04 12:04.98chip 05 12:18.77chip 06 12:18.79chip 07 12:06.40chip 08 12:07.02";
-    race(first, last);
+    let touches =
+        b"chip 01 12:04.31chip 02 12:04.33chip 03 12:04.70chip 04 12:04.98chip 05 12:06.12chip 06 12:06.15chip 07 12:06.40chip 08 12:07.02\
+        chip 01 12:04.31chip 02 12:04.30chip 03 12:04.70chip 04 12:04.98chip 05 12:18.77chip 06 12:18.79chip 07 12:06.40chip 08 12:07.02\
+        chip 01 12:04.31chip 02 12:04.30chip 03 12:04.70chip 04 12:04.98chip 05 12:31.54chip 06 12:18.79chip 07 12:06.40chip 08 12:07.02\
+        chip 09 12:31.58chip 10 12:31.50";
+    race(
+        touches_from(touches, 0, 8),
+        touches_from(touches, 8, 8),
+        touches_from(touches, 16, 10),
+    );
 }

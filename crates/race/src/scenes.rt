@@ -1,5 +1,5 @@
 // The scenes of the race. Block j, which is unit j mod 4 of stripe j div 4, holds the latest touch of chip j + 1: of the first touches, then of the
-// last ones.
+// later ones, then of the last.
 use crate::bytes::inferred;
 use crate::bytes::touch;
 use crate::bytes::touches_from;
@@ -12,9 +12,6 @@ use telling::words;
 
 // More steps than any request takes.
 const ALL: u64 = 17;
-
-// How many swimmers touch.
-const SWIMMERS: u64 = 8;
 
 // The mask of a block's unit alone.
 fn only(block: u64) -> u64 {
@@ -68,7 +65,7 @@ fn together(desk: Desk, first: u64, aloud: bool, touches: &[u8]) -> Desk {
     write(desk, first, 15, aloud, touches_from(touches, first, 4))
 }
 
-// The first lap: all swimmers touch, and the scan finds parity right.
+// The first lap: eight swimmers touch, and the scan finds parity right.
 pub(crate) fn first_lap(desk: Desk, touches: &[u8]) -> Desk {
     let desk = together(desk, 0, true, touches);
     let desk = together(desk, 4, false, touches);
@@ -76,10 +73,11 @@ pub(crate) fn first_lap(desk: Desk, touches: &[u8]) -> Desk {
     desk
 }
 
-// A swimmer touches alone: the write's first three steps.
-fn touches_alone(desk: Desk, sent: &[u8]) -> Desk {
-    told::touch(script::ALONE, sent, 4);
-    let desk = desk.admit(4, true, 1, sent);
+// A touch, as far as the first three steps of its write.
+fn begun(desk: Desk, what: u64, block: u64, touches: &[u8]) -> Desk {
+    let sent = touch(touches, block);
+    told::touch(what, sent, block);
+    let desk = desk.admit(block, true, only(block), sent);
     run(desk, desk.place, 3, true)
 }
 
@@ -111,37 +109,69 @@ fn dies(desk: Desk, card: u64) -> Desk {
 
 // A swimmer touches alone; meanwhile a touch for the same stripe is turned away, and another is read; then the card of that touch dies between two
 // steps of its write. The step that meets it has the graph chosen afresh, and the write goes on to its end.
-pub(crate) fn card_dies(desk: Desk, last: &[u8]) -> Desk {
-    let desk = touches_alone(desk, touch(last, 4));
+pub(crate) fn card_dies(desk: Desk, later: &[u8]) -> Desk {
+    let desk = begun(desk, script::ALONE, 4, later);
     let i = desk.place;
-    turned_away(desk, touch(last, 5));
+    turned_away(desk, touch(later, 5));
     tell(script::MEANWHILE);
-    let desk = read(desk, 2, last);
+    let desk = read(desk, 2, later);
     let card = card_of(desk, 4);
     between(desk, i, card);
     finish(dies(desk, card), i, true)
 }
 
 // A touch from its first step to its last, told in short.
-fn written(desk: Desk, what: u64, block: u64, last: &[u8]) -> Desk {
-    let sent = touch(last, block);
+fn written(desk: Desk, what: u64, block: u64, touches: &[u8]) -> Desk {
+    let sent = touch(touches, block);
     told::touch(what, sent, block);
     write(desk, block, only(block), false, sent)
 }
 
 // With the card out, the touch that was turned away asks again, and a time is corrected.
-pub(crate) fn race_goes_on(desk: Desk, last: &[u8]) -> Desk {
-    let desk = written(desk, script::AGAIN, 5, last);
-    written(desk, script::CORRECTED, 1, last)
+pub(crate) fn race_goes_on(desk: Desk, later: &[u8]) -> Desk {
+    let desk = written(desk, script::AGAIN, 5, later);
+    written(desk, script::CORRECTED, 1, later)
 }
 
-// Reads every touch back, and answers how many are what was sent.
-fn read_all(desk: Desk, last: &[u8]) -> u64 {
+// A spare is pushed into the sleeve of a card, and its fill begins.
+fn pushed_in(desk: Desk, card: u64) -> Desk {
+    say(script::SPARE, card, 0, 0, 0);
+    let state = desk.state;
+    let start = state.start();
+    let answer = start.answer;
+    told::started(answer);
+    desk.noisy(start.state, card)
+}
+
+// A spare is filled stripe by stripe while touches go on: one ahead of the fill, one behind it, and one at the stripe that is filled next, where the fill
+// waits for its last step. In the end no card is out, and the scan finds parity right.
+pub(crate) fn spare(desk: Desk, last: &[u8]) -> Desk {
+    let desk = pushed_in(desk, card_of(desk, 4));
+    let desk = written(desk, script::AHEAD, 9, last);
+    let desk = desk.rebuild().rebuild();
+    let desk = written(desk, script::BEHIND, 4, last);
+    let desk = begun(desk, script::AT_PLACE, 8, last);
+    let i = desk.place;
+    let desk = finish(desk.rebuild(), i, true);
+    let desk = desk.rebuild().rebuild().rebuild();
+    told::scanned(desk.scan());
+    desk
+}
+
+// Another card dies: that of a block.
+pub(crate) fn another_dies(desk: Desk, block: u64) -> Desk {
+    let card = card_of(desk, block);
+    say(script::ANOTHER_DIES, card, 0, 0, 0);
+    dies(desk, card)
+}
+
+// Reads every touch back, of so many, and answers how many are what was sent.
+fn read_all(desk: Desk, all: u64, touches: &[u8]) -> u64 {
     let mut now = desk;
     let mut same: u64 = 0;
     let mut block: u64 = 0;
-    while block < SWIMMERS {
-        now = read(now, block, last);
+    while block < all {
+        now = read(now, block, touches);
         if now.same {
             same += 1;
         }
@@ -150,20 +180,20 @@ fn read_all(desk: Desk, last: &[u8]) -> u64 {
     same
 }
 
-// The touch that the dead card held, inferred from the other cards.
-fn dead_cards_touch(desk: Desk, sent: &[u8]) {
-    let card = card_of(desk, 4);
-    let held = inferred(desk, card);
-    say(script::INFERRED, card, 0, 1, 0);
+// The touch that a dead card held, inferred from the other cards.
+fn dead_cards_touch(desk: Desk, block: u64, sent: &[u8]) {
+    let card = card_of(desk, block);
+    let held = inferred(desk, card, block / 4);
+    say(script::INFERRED, card, block % 4, block / 4, 0);
     words(&held);
     told::compared(check::same(&held, sent));
 }
 
-// Every touch is read back, and the dead card's one inferred.
-pub(crate) fn read_back(desk: Desk, last: &[u8]) {
+// Every touch is read back, and the one that the dead card held is inferred: that of a block.
+pub(crate) fn read_back(desk: Desk, all: u64, block: u64, touches: &[u8]) {
     tell(script::EVERY);
-    let same = read_all(desk, last);
+    let same = read_all(desk, all, touches);
     told::scanned(desk.scan());
-    dead_cards_touch(desk, touch(last, 4));
-    told::came_back(same, SWIMMERS);
+    dead_cards_touch(desk, block, touch(touches, block));
+    told::came_back(same, all);
 }

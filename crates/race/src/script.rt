@@ -18,83 +18,99 @@ pub const AGAIN: u64 = 5;
 
 pub const CORRECTED: u64 = 6;
 
-pub const FOR_BLOCK: u64 = 7;
+pub const AHEAD: u64 = 7;
 
-pub const MEANWHILE: u64 = 8;
+pub const BEHIND: u64 = 8;
 
-pub const EVERY: u64 = 9;
+pub const AT_PLACE: u64 = 9;
 
-pub const ADMITTED: u64 = 10;
+pub const FOR_BLOCK: u64 = 10;
 
-pub const COLLECTED: u64 = 11;
+pub const MEANWHILE: u64 = 11;
 
-pub const ASKED: u64 = 12;
+pub const EVERY: u64 = 12;
 
-pub const GIVES: u64 = 13;
+pub const ADMITTED: u64 = 13;
 
-pub const AS_SENT: u64 = 14;
+pub const COLLECTED: u64 = 14;
 
-pub const NOT_AS_SENT: u64 = 15;
+pub const ASKED: u64 = 15;
 
-pub const STEP: u64 = 16;
+pub const GIVES: u64 = 16;
 
-pub const READ_UNIT: u64 = 17;
+pub const AS_SENT: u64 = 17;
 
-pub const READ_PARITY: u64 = 18;
+pub const NOT_AS_SENT: u64 = 18;
 
-pub const SUM: u64 = 19;
+pub const STEP: u64 = 19;
 
-pub const WRITE_UNIT: u64 = 20;
+pub const READ_UNIT: u64 = 20;
 
-pub const WRITE_PARITY: u64 = 21;
+pub const READ_PARITY: u64 = 21;
 
-pub const INDENT: u64 = 22;
+pub const SUM: u64 = 22;
 
-pub const DONE: u64 = 23;
+pub const WRITE_UNIT: u64 = 23;
 
-pub const AFRESH: u64 = 24;
+pub const WRITE_PARITY: u64 = 24;
 
-pub const COLON: u64 = 25;
+pub const INDENT: u64 = 25;
 
-pub const END: u64 = 26;
+pub const DONE: u64 = 26;
 
-pub const DIES: u64 = 27;
+pub const AFRESH: u64 = 27;
 
-pub const AND: u64 = 28;
+pub const COLON: u64 = 28;
 
-pub const REPORTED: u64 = 29;
+pub const END: u64 = 29;
 
-pub const ACCEPTED: u64 = 30;
+pub const DIES: u64 = 30;
 
-pub const NOISE: u64 = 31;
+pub const ANOTHER_DIES: u64 = 31;
 
-pub const SCAN: u64 = 32;
+pub const AND: u64 = 32;
 
-pub const RIGHT: u64 = 33;
+pub const REPORTED: u64 = 33;
 
-pub const DISAGREES: u64 = 34;
+pub const ACCEPTED: u64 = 34;
 
-pub const KEPT: u64 = 35;
+pub const NOISE: u64 = 35;
 
-pub const TABLE_ALTERED: u64 = 36;
+pub const SPARE: u64 = 36;
 
-pub const WORK_ALTERED: u64 = 37;
+pub const REBUILD: u64 = 37;
 
-pub const INFERRED: u64 = 38;
+pub const FILLED: u64 = 38;
 
-pub const CAME_BACK: u64 = 39;
+pub const WHOLE: u64 = 39;
 
-pub const LOST: u64 = 40;
+pub const SCAN: u64 = 40;
 
-pub const REFUSED: u64 = 41;
+pub const RIGHT: u64 = 41;
+
+pub const DISAGREES: u64 = 42;
+
+pub const KEPT: u64 = 43;
+
+pub const TABLE_ALTERED: u64 = 44;
+
+pub const WORK_ALTERED: u64 = 45;
+
+pub const INFERRED: u64 = 46;
+
+pub const CAME_BACK: u64 = 47;
+
+pub const LOST: u64 = 48;
+
+pub const REFUSED: u64 = 49;
 // The reason of refusal k is sentence REASONS + k, and the name of graph g is sentence GRAPHS + g.
-const REASONS: u64 = 41;
+const REASONS: u64 = 49;
 
-const GRAPHS: u64 = 54;
+const GRAPHS: u64 = 64;
 
-const GRAPH: u64 = 61;
+const GRAPH: u64 = 71;
 
-const CLOSED: u64 = 62;
+const CLOSED: u64 = 72;
 
 // A telling: how many sentences come before the one that is told, and the numbers that it has not used.
 pub struct Telling {
@@ -176,6 +192,9 @@ pub(crate) fn say(sentence: u64, a: u64, b: u64, c: u64, d: u64) {
         Another touches while that stripe is held: |\
         The touch that was turned away, again: |\
         The desk corrects a time: |\
+        A swimmer touches ahead of the fill: |\
+        A swimmer touches behind the fill: |\
+        A swimmer touches at the stripe that is filled next: |\
         , block #\n|\
         The board reads a touch meanwhile\n|\
         Every touch is read back\n|\
@@ -197,10 +216,15 @@ pub(crate) fn say(sentence: u64, a: u64, b: u64, c: u64, d: u64) {
         : |\
         \n|\
         Card # dies between |\
+        Another card dies, card #\n  reported: |\
         , and |\
         \n  reported: |\
         accepted\n|\
         \x20 its bytes are noise from now on\n|\
+        A spare is pushed in for card #, and its bytes are noise\n  start: |\
+        Rebuild: |\
+        stripe # is filled\n|\
+        \x20 no card is out\n|\
         The scan: |\
         parity is right\n|\
         parity disagrees in stripe #, byte #\n|\
@@ -224,6 +248,8 @@ pub(crate) fn say(sentence: u64, a: u64, b: u64, c: u64, d: u64) {
         that step is not ready|\
         a card is out|\
         parity disagrees|\
+        no card is out, or no fill is begun|\
+        a fill is under way|\
         plain read|\
         degraded read|\
         small write|\
@@ -251,9 +277,9 @@ pub(crate) fn graph(g: u64) {
     tell(CLOSED);
 }
 
-// Tells that a call was refused, by document 01's number, and why.
+// Tells that a call was refused, by the paper's number, and why.
 pub(crate) fn refused(number: u64) {
-    if number > 13 {
+    if number > 15 {
         return;
     }
     say(REFUSED, number, 0, 0, 0);

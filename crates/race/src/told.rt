@@ -7,8 +7,11 @@ use crate::script::tell;
 use array::answers::Admitted;
 use array::answers::Collected;
 use array::answers::Opened;
+use array::answers::Rebuilt;
 use array::answers::Stepped;
+use geometry::NONE;
 use geometry::State;
+use geometry::fill::Started;
 use geometry::report::Reported;
 use graph::Action;
 use parity::Scan;
@@ -124,6 +127,26 @@ pub(crate) fn reported(answer: Reported) {
     match answer {
         Reported::Marked => tell(script::ACCEPTED),
         Reported::Refused(number) => refused(number),
+    }
+}
+
+// What start answered.
+pub(crate) fn started(answer: Started) {
+    match answer {
+        Started::Begun => tell(script::ACCEPTED),
+        Started::Refused(number) => refused(number),
+    }
+}
+
+// What a rebuild step answered, with the card that is out after it.
+pub(crate) fn rebuilt(answer: Rebuilt, out: u64) {
+    tell(script::REBUILD);
+    match answer {
+        Rebuilt::Filled(stripe) => say(script::FILLED, stripe, 0, 0, 0),
+        Rebuilt::Refused(number) => refused(number),
+    }
+    if out == NONE {
+        tell(script::WHOLE);
     }
 }
 

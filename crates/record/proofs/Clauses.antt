@@ -2,13 +2,15 @@
 -- Assumes nothing.
 use Prim.Native.Nat.{ℕ, _+_, _*_, _<_}
 use mathlib.Core.Bool.{Bool, true, false, cond, not, _&&_, _||_}
-use mathlib.Core.Logic.{_⊎_, inl, inr}
+use mathlib.Core.Logic.{_⊎_, inl, inr, ⊎-elim}
 use mathlib.Core.Path.{_≡_, refl, sym, _∙_}
 use native.Mathlib.Omega.{arith}
-use borrow.Author.Tests.{eqb-true, ne-eqb, ltb-true, lt-ltb}
+use borrow.Author.Tests.{eqb-true, eq-eqb, ne-eqb, ltb-true, lt-ltb}
 use lib.Dec.{ltb, leb, eqb}
 use Rattle.terms.specs.Sets.{within}
 use Rattle.terms.proofs.Rows.{true≢false, and-left, and-right, or-cases}
+use Rattle.geometry.specs.Limits.{none}
+use Rattle.geometry.specs.Placement.{outIn}
 use Rattle.geometry.specs.declared.State.{State}
 use Rattle.record.specs.Life.{free, isFree, isOpen, isFinished, unitsOf}
 use Rattle.record.specs.Sound.{allZero, legalMask, legalRecord, legalChosen, rightGraph, rightSteps, lacksNone, rightCount, soundRecord}
@@ -114,3 +116,34 @@ module _ (st : State) where
   pub free-sound : soundRecord st free ≡ true
   unfolding soundRecord allZero
   free-sound = refl
+
+-- ---- the chosen-with card: 255; or, of an open record, the one that is missing in its stripe, and of a finished one any card
+
+either : (b : Bool) → (b || true) ≡ true
+either true = refl
+either false = refl
+
+module _ (st : State) (r : Record) where
+  pub chosen-none : r .chosen ≡ none → legalChosen st r ≡ true
+  unfolding legalChosen
+  chosen-none e = rw (eq-eqb (r .chosen) none e)
+
+  pub chosen-missing : isOpen r ≡ true → r .chosen ≡ outIn st (r .stripe) → legalChosen st r ≡ true
+  unfolding legalChosen
+  chosen-missing o e = rw (o, eq-eqb (r .chosen) (outIn st (r .stripe)) e) (either (eqb (r .chosen) none))
+
+  pub chosen-any : isOpen r ≡ false → r .chosen < st .cards → legalChosen st r ≡ true
+  unfolding legalChosen
+  chosen-any o l = rw (o, lt-ltb (r .chosen) (st .cards) l) (either (eqb (r .chosen) none))
+
+  pub open-chosen : isOpen r ≡ true → legalChosen st r ≡ true → (r .chosen ≡ none) ⊎ (r .chosen ≡ outIn st (r .stripe))
+  unfolding legalChosen
+  open-chosen o e =
+      ⊎-elim (λ f. inl (eqb-true (r .chosen) none f)) (λ f. inr (eqb-true (r .chosen) (outIn st (r .stripe)) f))
+      (or-cases (eqb (r .chosen) none) (eqb (r .chosen) (outIn st (r .stripe))) (rw o at e))
+
+  pub finished-chosen : isOpen r ≡ false → legalChosen st r ≡ true → (r .chosen ≡ none) ⊎ (r .chosen < st .cards)
+  unfolding legalChosen
+  finished-chosen o e =
+      ⊎-elim (λ f. inl (eqb-true (r .chosen) none f)) (λ f. inr (ltb-true (r .chosen) (st .cards) f))
+      (or-cases (eqb (r .chosen) none) (ltb (r .chosen) (st .cards)) (rw o at e))

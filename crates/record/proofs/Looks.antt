@@ -5,6 +5,7 @@ use mathlib.Core.Bool.{Bool, true, false, cond, not, _&&_}
 use mathlib.Core.Path.{_≡_, refl, ap, _∙_}
 use native.Mathlib.Omega.{arith}
 use borrow.Author.Tests.{lt-ltb}
+use Rattle.geometry.specs.Placement.{filled, outIn}
 use Rattle.geometry.specs.declared.State.{State}
 use Rattle.graph.proofs.Forerunners.{complete-test}
 use Rattle.graph.proofs.Laws.{ready-elim, member-below}
@@ -12,8 +13,8 @@ use Rattle.graph.specs.Asked.{stepSet, partOf}
 use Rattle.graph.specs.Order.{ready, complete, after}
 use Rattle.record.specs.Asked.{fewIn, soundRecordIn}
 use Rattle.record.specs.Life.{isFree, isOpen, unitsOf, chosenAt, missingIn, stepped, afresh}
-use Rattle.record.specs.Look.{found, nothing, lookOf, canMark, afterStep, afterChoice}
-use Rattle.record.specs.Sound.{allZero, soundRecord}
+use Rattle.record.specs.Look.{seenAs, found, nothing, lookOf, canMark, afterStep, afterChoice}
+use Rattle.record.specs.Sound.{allZero, legalRecord, legalChosen, rightGraph, rightSteps, lacksNone, rightCount, soundRecord}
 use Rattle.record.specs.declared.Look.{Look}
 use Rattle.record.specs.declared.Record.{Record}
 use Rattle.record.proofs.Clauses.{open-not-free}
@@ -28,6 +29,17 @@ module _ (st : State) (r : Record) where
       go : (b : Bool) → cond b (found st r out) (nothing false) .sound ≡ b
       go true = refl
       go false = refl
+
+  -- soundness, and what is found, depend on the cards, the stripes and the card that is missing in the record's stripe
+  as-seen : soundRecordIn (seenAs (st .cards) (st .stripes) (outIn st (r .stripe))) r ≡ soundRecordIn st r
+  unfolding soundRecordIn soundRecord legalRecord legalChosen rightGraph rightSteps rightCount lacksNone outIn filled
+  as-seen = refl
+
+  pub busy-by : (now out : ℕ) → now ≡ outIn st (r .stripe)
+      → cond (soundRecordIn (seenAs (st .cards) (st .stripes) now) r) (found (seenAs (st .cards) (st .stripes) now) r out) (nothing false)
+      ≡ cond (soundRecordIn st r) (found st r out) (nothing false)
+  unfolding found
+  busy-by now out e = rw e (ap (λ (b : Bool). cond b (found st r out) (nothing false)) as-seen)
 
   -- the look at a free record, and at another
   pub look-free : isFree r ≡ true → lookOf st r ≡ nothing (fewIn st && allZero r)

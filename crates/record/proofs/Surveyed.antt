@@ -15,7 +15,7 @@ use Rattle.terms.proofs.Rows.{truth, and-left, and-right, and-both}
 use Rattle.terms.proofs.Sets.{allBelow-elim, allBelow-intro, allBelow-cong, lowest-le, lowest-is, lowest-none, lowest-holds, lowest-before}
 use Rattle.terms.specs.Lists.{tabulate, every}
 use Rattle.terms.specs.Sets.{allBelow, lowest}
-use Rattle.geometry.proofs.Lengths.{state-bounds}
+use Rattle.geometry.proofs.States.{state-bounds}
 use Rattle.geometry.specs.Limits.{beyondState}
 use Rattle.geometry.specs.declared.State.{State}
 use Rattle.graph.proofs.Few.{few}
@@ -26,8 +26,8 @@ use Rattle.record.proofs.Filling.{entry, entry-at, filling, filling-mor
 use Rattle.record.proofs.Same.{same-survey}
 use Rattle.record.specs.Asked.{fewIn, noStripe, heldStripe, soundRecordIn}
 use Rattle.record.specs.Life.{free, isFree, isOpen, unitsOf}
-use Rattle.record.specs.Seen.{looksAtMany, toSee, started, heldBefore, stillSound, stillFree, seen, seenTo}
-use Rattle.record.specs.Sound.{soundRecord, clash, apart, sound, holds, held, lowestFree}
+use Rattle.record.specs.Seen.{looksAtMany, toSee, started, heldBefore, fine, stillSound, stillFree, seen, seenTo}
+use Rattle.record.specs.Sound.{allZero, soundRecord, clash, apart, sound, holds, held, lowestFree}
 use Rattle.record.specs.Survey.{looksAt, unseen, surveyOf}
 use Rattle.record.specs.declared.Record.{Record}
 use Rattle.record.specs.declared.Survey.{Survey}
@@ -183,10 +183,19 @@ module _ (st : State) (l : List Record) where
         ap (λ (x : ℕ). not (eqb x s))
         (getD-tabulate 8 (entry (λ k. heldStripe (rec k)) noStripe i) j 0 (omega arith) ∙ entry-at (λ k. heldStripe (rec k)) noStripe i j k)))
 
+    -- a record of a table that is looked at is fine where it is sound
+    fine-sound : (i : ℕ) → fine st (rec i) ≡ soundRecord st (rec i)
+    unfolding fine soundRecordIn soundRecord
+    fine-sound i = rw (of-table .few-units) (go (isFree (rec i)) (allZero (rec i)) _)
+      where
+        go : (b p q : Bool) → cond b p (cond b p q) ≡ cond b p q
+        go true p q = refl
+        go false p q = refl
+
     -- one more record fits
     sound-more : (i : ℕ) → i ≤ 8 → stillSound st (surveyTo i) i (rec i) ≡ surveyTo (suc i) .sound
-    unfolding stillSound soundRecordIn allBelow fits surveyTo
-    sound-more i h = ap (_&&_ (allBelow i fits)) (rw (of-table .few-units) (go (soundRecord st (rec i)) refl))
+    unfolding stillSound allBelow fits surveyTo
+    sound-more i h = ap (_&&_ (allBelow i fits)) (rw (fine-sound i) (go (soundRecord st (rec i)) refl))
       where
         go : (b : Bool) → soundRecord st (rec i) ≡ b
             → (b && not (isOpen (rec i) && heldBefore (surveyTo i) (rec i .stripe) i)) ≡ (b && allBelow i (λ j. not (clash (rec i) (rec j))))

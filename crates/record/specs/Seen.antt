@@ -9,6 +9,7 @@ use Rattle.terms.specs.Sets.{allBelow}
 use Rattle.geometry.specs.declared.State.{State}
 use Rattle.record.specs.Asked.{noStripe, soundRecordIn}
 use Rattle.record.specs.Life.{free, isFree, isOpen}
+use Rattle.record.specs.Sound.{allZero}
 use Rattle.record.specs.declared.Survey.{Survey}
 use Rattle.record.specs.declared.Record.{Record}
 
@@ -28,9 +29,13 @@ started st len = record { len = len; sound = looksAtMany st len; held = replicat
 unfoldable pub heldBefore : Survey → ℕ → ℕ → Bool
 heldBefore v s i = not (allBelow i (λ j. not (eqb (getD (v .held) j 0) s)))
 
+-- the record is sound, in a table that is looked at
+unfoldable pub fine : State → Record → Bool
+fine st r = cond (isFree r) (allZero r) (soundRecordIn st r)
+
 -- the table is sound as far as record r at i: r is sound, and holds no stripe that one before it holds
 unfoldable pub stillSound : State → Survey → ℕ → Record → Bool
-stillSound st v i r = v .sound && (soundRecordIn st r && not (isOpen r && heldBefore v (r .stripe) i))
+stillSound st v i r = v .sound && (fine st r && not (isOpen r && heldBefore v (r .stripe) i))
 
 -- the lowest free record as far as record r at i
 unfoldable pub stillFree : Survey → ℕ → Record → ℕ

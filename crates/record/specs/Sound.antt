@@ -40,9 +40,9 @@ legalRecord st r =
     && legalMask (unitsOf st) (r .mask)
     && within 1 6 (r .graph)
 
--- its chosen-with card is 255 or the card that is missing in its stripe
+-- its chosen-with card is 255; or, of an open one, the card that is missing in its stripe, and of a finished one any card
 unfoldable pub legalChosen : State → Record → Bool
-legalChosen st r = eqb (r .chosen) none || eqb (r .chosen) (outIn st (r .stripe))
+legalChosen st r = eqb (r .chosen) none || cond (isOpen r) (eqb (r .chosen) (outIn st (r .stripe))) (ltb (r .chosen) (st .cards))
 
 -- its graph is the one that the table chooses for that card
 unfoldable pub rightGraph : State → Record → Bool

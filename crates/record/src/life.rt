@@ -1,6 +1,7 @@
 // A request record, at admission, after a step and after a fresh choice.
 ghost use mathlib.Core.Bool.{cond};
 ghost use mathlib.Core.Path.{_≡_};
+ghost use Prim.Native.Nat.{_-_};
 ghost use Rattle.record.specs.Asked.{readyIn, canCount};
 ghost use Rattle.record.specs.Look.{canMark, afterStep, afterChoice};
 ghost use Rattle.record.specs.Life.{free, unitsOf, chosenAt, admitted};
@@ -8,13 +9,19 @@ use crate::Record;
 use geometry::State;
 
 // The data units of a stripe, n = N-1.
+pub(crate) fn units_of(cards: u64) -> u64
+    ensures { λ r. ⌜ r ≡ cards - 1 ⌝ }
+{
+    if cards == 0 {
+        return 0;
+    }
+    cards - 1
+}
+
 pub(crate) fn units(state: State) -> u64
     ensures { λ r. ⌜ r ≡ unitsOf state ⌝ }
 {
-    if state.cards == 0 {
-        return 0;
-    }
-    state.cards - 1
+    units_of(state.cards)
 }
 
 // The free record: all zero.

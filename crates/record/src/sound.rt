@@ -3,15 +3,18 @@ ghost use mathlib.Core.Bool.{false, cond, not, _&&_};
 ghost use mathlib.Core.Path.{_≡_};
 ghost use Prim.Native.Nat.{_+_, _*_, _≤_};
 ghost use lib.Dec.{leb};
+ghost use Rattle.geometry.specs.Placement.{missingAt};
 ghost use Rattle.record.specs.Asked.{fewIn, soundRecordIn};
-ghost use Rattle.record.specs.Life.{isFree, chosenAt, missingIn};
-ghost use Rattle.record.specs.Look.{found, nothing, lookOf};
+ghost use Rattle.record.specs.Life.{isFree, chosenAt};
+ghost use Rattle.record.specs.Look.{seenAs, found, nothing, lookOf};
 ghost use Rattle.record.specs.Sound.{allZero, legalMask, legalRecord, legalChosen};
 use crate::Look;
 use crate::Record;
 use crate::life::units;
+use crate::life::units_of;
 use geometry::NONE;
 use geometry::State;
+use geometry::missing_at;
 
 // A legal mask of n units: not zero, and no bit at n or above.
 pub fn legal_mask(n: u64, mask: u64) -> bool
@@ -58,7 +61,7 @@ fn nothing(sound: bool) -> Look
 
 impl Record {
     // Every number of the record is zero.
-    fn all_zero(self) -> bool
+    pub(crate) fn all_zero(self) -> bool
         ensures { λ r. ⌜ r ≡ allZero self ⌝ }
     {
         (self.phase
@@ -72,9 +75,9 @@ impl Record {
             == 0
     }
 
-    // Open or finished, with a legal kind, stripe, mask and graph.
-    fn is_legal(self, state: State) -> bool
-        ensures { λ r. ⌜ r ≡ legalRecord state self ⌝ }
+    // Open or finished, with a legal kind, stripe, mask and graph, in an array of so many cards and stripes.
+    fn is_legal(self, cards: u64, stripes: u64) -> bool
+        ensures { λ r. ⌜ r ≡ legalRecord (seenAs cards stripes 0) self ⌝ }
     {
         if self.phase == 0 {
             return false;
@@ -85,10 +88,10 @@ impl Record {
         if self.write > 1 {
             return false;
         }
-        if self.stripe >= state.stripes {
+        if self.stripe >= stripes {
             return false;
         }
-        if !legal_mask(units(state), self.mask) {
+        if !legal_mask(units_of(cards), self.mask) {
             return false;
         }
         if self.graph == 0 {
@@ -97,18 +100,21 @@ impl Record {
         self.graph <= 6
     }
 
-    // Its chosen-with card is 255 or the card that is missing in its stripe.
-    fn legal_chosen(self, state: State) -> bool
-        ensures { λ r. ⌜ r ≡ legalChosen state self ⌝ }
+    // Its chosen-with card is 255; or, of an open one, the card that is missing in its stripe now, and of a finished one any card.
+    fn legal_chosen(self, cards: u64, now: u64) -> bool
+        ensures { λ r. ⌜ r ≡ legalChosen (seenAs cards 0 now) self ⌝ }
     {
         if self.chosen == NONE {
             return true;
         }
-        self.chosen == state.out_in(self.stripe)
+        if self.phase == 1 {
+            return self.chosen == now;
+        }
+        self.chosen < cards
     }
 
     // A free record is sound: every number is zero.
-    pub(crate) fn free_sound(self, state: State) -> bool
+    fn free_sound(self, state: State) -> bool
         ensures { λ r. ⌜ r ≡ (fewIn state && allZero self) ⌝ }
     {
         if units(state) > 7 {
@@ -117,19 +123,20 @@ impl Record {
         self.all_zero()
     }
 
-    // What is found of a record that is not free; x is the position that was missing at its choice, and out is handed on.
-    fn looked(self, state: State, x: u64, out: u64) -> Look
-        requires { ⌜ (isFree self ≡ false) × (x ≡ chosenAt state self) ⌝ }
-        ensures { λ r. ⌜ r ≡ cond (soundRecordIn state self) (found state self out) (nothing false) ⌝ }
+    // What is found of a record that is not free, in an array of so many cards and stripes; now is the card that is missing in its stripe, x the
+    // position that was missing at its choice, and out is handed on. It takes numbers: a state by value would be copied for each record.
+    fn looked(self, cards: u64, stripes: u64, now: u64, x: u64, out: u64) -> Look
+        requires { ⌜ (isFree self ≡ false) × (x ≡ chosenAt (seenAs cards stripes now) self) ⌝ }
+        ensures { λ r. ⌜ r ≡ cond (soundRecordIn (seenAs cards stripes now) self) (found (seenAs cards stripes now) self out) (nothing false) ⌝ }
     {
-        let n = units(state);
+        let n = units_of(cards);
         if n > 7 {
             return nothing(false);
         }
-        if !self.is_legal(state) {
+        if !self.is_legal(cards, stripes) {
             return nothing(false);
         }
-        if !self.legal_chosen(state) {
+        if !self.legal_chosen(cards, now) {
             return nothing(false);
         }
         if self.graph != graph::choose(n, self.write == 1, self.mask, x) {
@@ -158,19 +165,21 @@ impl Record {
         if self.phase == 0 {
             return self.free_sound(state);
         }
-        let look = self.looked(state, self.chosen_at(state), 0);
+        let now = state.out_in(self.stripe);
+        let x = self.chosen_at(state);
+        let look = self.looked(state.cards, state.stripes, now, x, 0);
         look.sound
     }
 
-    // The position that is missing now, where x is the one that was at the choice.
-    fn missing_now(self, state: State, x: u64) -> u64
-        requires { ⌜ x ≡ chosenAt state self ⌝ }
-        ensures { λ r. ⌜ r ≡ missingIn state (self .stripe) ⌝ }
+    // The position of the card that is missing now, where x is that of the one at the choice.
+    fn missing_now(self, cards: u64, now: u64, x: u64) -> u64
+        requires { ⌜ x ≡ missingAt cards (self .stripe) (self .chosen) ⌝ }
+        ensures { λ r. ⌜ r ≡ missingAt cards (self .stripe) now ⌝ }
     {
-        if self.chosen == state.out_in(self.stripe) {
+        if self.chosen == now {
             return x;
         }
-        state.missing_in(self.stripe)
+        missing_at(cards, self.stripe, now)
     }
 
     // What one look at the record finds.
@@ -180,7 +189,9 @@ impl Record {
         if self.phase == 0 {
             return nothing(self.free_sound(state));
         }
+        let now = state.out_in(self.stripe);
         let x = self.chosen_at(state);
-        self.looked(state, x, self.missing_now(state, x))
+        let out = self.missing_now(state.cards, now, x);
+        self.looked(state.cards, state.stripes, now, x, out)
     }
 }

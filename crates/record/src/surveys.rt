@@ -4,7 +4,7 @@ ghost use lib.Dec.{eqb};
 ghost use mathlib.Core.Path.{_≡_};
 ghost use Prim.Native.Nat.{_≤_, _<_};
 ghost use lib.ListN.{set};
-ghost use Rattle.record.specs.Asked.{fewIn, soundRecordIn};
+ghost use Rattle.record.specs.Asked.{soundRecordIn};
 ghost use Rattle.record.specs.Seen.{looksAtMany, toSee, started, heldBefore, seen};
 ghost use Rattle.record.specs.Life.{free};
 ghost use Rattle.record.specs.Sound.{allZero};
@@ -100,10 +100,10 @@ impl Survey {
     }
 
     // The survey after a free record at i.
-    fn seen_free(self, state: State, i: u64, r: Record) -> Survey
-        ensures { λ v. ⌜ v ≡ record { len = self .len; sound = self .sound && (fewIn state && allZero r); held = self .held; free = cond (eqb (self .free) (self .len)) i (self .free) } ⌝ }
+    fn seen_free(self, i: u64, r: Record) -> Survey
+        ensures { λ v. ⌜ v ≡ record { len = self .len; sound = self .sound && allZero r; held = self .held; free = cond (eqb (self .free) (self .len)) i (self .free) } ⌝ }
     {
-        let sound = both(self.sound, r.free_sound(state));
+        let sound = both(self.sound, r.all_zero());
         let free = self.first_free(i);
         let held = self.held;
         Survey {
@@ -156,7 +156,7 @@ impl Survey {
             };
         }
         if r.phase == 0 {
-            return self.seen_free(state, i, r);
+            return self.seen_free(i, r);
         }
         let right = so_far(self.sound, state, r);
         if r.phase == 1 {

@@ -3,14 +3,16 @@
 use Prim.Native.Nat.{ℕ}
 use mathlib.Core.List.{List}
 use mathlib.Core.Path.{_≡_}
+use Rattle.geometry.specs.Fill.{Starting}
 use Rattle.geometry.specs.Report.{Reporting}
 use Rattle.geometry.specs.declared.State.{State}
 use Rattle.record.specs.declared.Record.{Record}
 use Rattle.array.specs.Admission.{Admission}
 use Rattle.array.specs.Collection.{Collection}
 use Rattle.array.specs.Opening.{Opening}
+use Rattle.array.specs.Rebuilding.{Rebuilding}
 use Rattle.array.specs.Stepping.{Stepping}
-use Rattle.recorder.specs.Engine.{OpeningPacked, AdmissionPacked, SteppingPacked, ReportingPacked, CollectionPacked}
+use Rattle.recorder.specs.Engine.{OpeningPacked, AdmissionPacked, SteppingPacked, ReportingPacked, StartingPacked, CollectionPacked, RebuildingPacked}
 
 module _ {d : Opening} {old : State} {a b : ℕ} {s z : State} {t u : List Record} where
   pub open-one : OpeningPacked d old a s t → OpeningPacked d old b z u → (a ≡ b) × (s ≡ z) × (t ≡ u)
@@ -28,6 +30,14 @@ module _ {d : Reporting} {a b : ℕ} {s z : State} where
   pub report-one : ReportingPacked d a s → ReportingPacked d b z → (a ≡ b) × (s ≡ z)
   report-one p q = (cc, cc)
 
+module _ {d : Starting} {a b : ℕ} {s z : State} where
+  pub start-one : StartingPacked d a s → StartingPacked d b z → (a ≡ b) × (s ≡ z)
+  start-one p q = (cc, cc)
+
 module _ {d : Collection} {a b : ℕ} {t u : List Record} {m n : List ℕ} where
   pub collect-one : CollectionPacked d a t m → CollectionPacked d b u n → (a ≡ b) × (t ≡ u) × (m ≡ n)
   collect-one p q = (cc, cc, cc)
+
+module _ {d : Rebuilding} {a b : ℕ} {s z : State} {m n : List ℕ} where
+  pub rebuild-one : RebuildingPacked d a s m → RebuildingPacked d b z n → (a ≡ b) × (s ≡ z) × (m ≡ n)
+  rebuild-one p q = (cc, cc, cc)

@@ -1,5 +1,5 @@
 -- Every answer of the functions has room in one packed number: a record is below 8, a graph at most 6, a count at most 2n+3 and so 17, a stripe at
--- most 1,024 and a byte at most 512.
+-- most 1,024, the one that a rebuild step filled below, and a byte at most 512.
 -- Assumes nothing.
 use Prim.Native.Nat.{ℕ, _+_, _*_, _≤_}
 use mathlib.Core.Bool.{Bool, true, false, cond, _&&_, _||_}
@@ -14,12 +14,13 @@ use Rattle.terms.specs.Reply.{Reply, accepted, refused, onAccept}
 use Rattle.terms.proofs.Refusals.{Failed, giving, zero-failed, failed-first, failed-second}
 use Rattle.terms.proofs.Rows.{and-right}
 use Rattle.geometry.specs.Limits.{beyondState}
-use Rattle.geometry.specs.Report.{reporting, reportRefusal}
+use Rattle.geometry.specs.Fill.{starting, startRows, startRefusal}
+use Rattle.geometry.specs.Report.{reporting, stateRows, reportRows, reportRefusal}
 use Rattle.geometry.specs.Store.{workWrong}
 use Rattle.geometry.specs.declared.Geometry.{Geometry}
 use Rattle.geometry.specs.declared.State.{State}
 use Rattle.geometry.proofs.Bounds.{within-limits}
-use Rattle.geometry.proofs.Lengths.{state-bounds}
+use Rattle.geometry.proofs.States.{state-bounds, state-filling}
 use Rattle.graph.specs.Choice.{choose, chooseRead, chooseWrite}
 use Rattle.graph.specs.Steps.{stepOf}
 use Rattle.parity.specs.Scan.{idleScanReply, nothingHeld}
@@ -33,12 +34,14 @@ use Rattle.array.specs.Admission.{admissionBy, admission}
 use Rattle.array.specs.Collection.{collectionBy, collection}
 use Rattle.array.specs.Lent.{tableWrong, lentRows}
 use Rattle.array.specs.Opening.{openingBy, opening}
+use Rattle.array.specs.Rebuilding.{rebuildingBy, rebuilding}
 use Rattle.array.proofs.Accepted.{own-sound}
-use Rattle.array.specs.Refusals.{openRefusal, admitRows, admitRefusal, stepRows, stepRefusal, collectRows, collectRefusal, scanRows, scanRefusal}
+use Rattle.array.specs.Refusals.{openRefusal, admitRows, admitRefusal, stepRows, stepRefusal, collectRows, collectRefusal, scanRows, scanRefusal, rebuildRows, rebuildRefusal}
 use Rattle.array.specs.Scan.{scanReplyBy, scanReply}
 use Rattle.array.specs.Stepping.{SteppingBy, steppingBy, stepping, accepting, meetsOut}
 use Rattle.array.proofs.Admissions.{admitNumber, admit-passed}
 use Rattle.array.proofs.Lent.{free-seen, passed-rows}
+use Rattle.array.proofs.Rebuildings.{rebuildNumber, rebuild-passed}
 use Rattle.recorder.specs.Packing.{Roomy}
 
 -- small values have room
@@ -46,13 +49,13 @@ roomy : (r : Reply) → Small r → Roomy r
 roomy r s = record { number = omega (arith, s .number); first = omega (arith, s .first); second = omega (arith, s .second) }
 
 -- a reply with a number, and a first value where it is accepted
-module _ (n v : ℕ) (number : n ≤ 13) (value : n ≡ 0 → v ≤ 1024) where
-  pub one-small : Small (onAccept n (accepted v 0) (refused n))
-  one-small = go (eqb n 0) refl
+module _ (n v : ℕ) (number : n ≤ 15) (value : n ≡ 0 → v ≤ 1024) where
+  one-room : Roomy (onAccept n (accepted v 0) (refused n))
+  one-room = go (eqb n 0) refl
     where
-      go : (b : Bool) → eqb n 0 ≡ b → Small (cond b (accepted v 0) (refused n))
-      go true e = record { number = omega arith; first = value (eqb-true n 0 e); second = omega arith }
-      go false e = record { number = number; first = omega arith; second = omega arith }
+      go : (b : Bool) → eqb n 0 ≡ b → Roomy (cond b (accepted v 0) (refused n))
+      go true e = record { number = omega arith; first = omega (arith, value (eqb-true n 0 e)); second = omega arith }
+      go false e = record { number = omega (arith, number); first = omega arith; second = omega arith }
 
 -- the table chooses a graph from 1 to 6
 choose-le : (n : ℕ) (write : Bool) (mask x : ℕ) → choose n write mask x ≤ 6
@@ -93,17 +96,20 @@ open-room g out table work image =
     disagreement-small (g .cards) (g .stripes) (g .block) image nothingHeld (limits .stripes-high) (limits .block-high)))
 
 pub report-room : (st : State) (c : ℕ) → Roomy (reporting st c .reply)
-unfolding reporting reportRefusal every
-report-room st c = roomy _ (one-small (reportRefusal st c) 0 (firstRow-le 13 _ refl) (λ _. omega arith))
+unfolding reporting reportRefusal stateRows reportRows every
+report-room st c = one-room (reportRefusal st c) 0 (firstRow-le 15 _ refl) (λ _. omega arith)
+
+pub start-room : (st : State) → Roomy (starting st .reply)
+unfolding starting startRefusal stateRows startRows every
+start-room st = one-room (startRefusal st) 0 (firstRow-le 15 _ refl) (λ _. omega arith)
 
 pub admit-room : (st : State) (table : List Record) (work image : List ℕ) (write : Bool) (s mask : ℕ) (payload : List ℕ) → Roomy (admission st table work image write s mask payload .reply)
 unfolding admission admissionBy admitRefusal lentRows admitRows every
 admit-room st table work image write s mask payload =
-    roomy _
-    (one-small (admitNumber st table work image write s mask payload) _ (firstRow-le 13 _ refl)
+    one-room (admitNumber st table work image write s mask payload) _ (firstRow-le 15 _ refl)
     (λ z.
     let a = admit-passed st table work image write s mask payload z in
-    omega (arith, a .some-free, a .right .table-right, free-seen st table (a .right .limits) (a .right .table-right), state-bounds st (a .right .limits))))
+    omega (arith, a .some-free, a .right .table-right, free-seen st table (a .right .limits) (a .right .table-right), state-bounds st (a .right .limits)))
 
 -- a done step answers 0, one that meets the card that is out the new graph
 step-cases : (a b : Bool) (x y z : SteppingBy) → Small (x .reply) → Small (y .reply) → Small (z .reply) → Small (cond {A = SteppingBy} a (cond b x y) z .reply)
@@ -127,9 +133,9 @@ step-room st table work image i k =
 
 -- the record that an accepted collect takes is sound, and counts at most 2n+3
 module _ (st : State) (v : Survey) (r : Record) (work : List ℕ) (i : ℕ) (result : List ℕ) where
-  collect-number : collectRefusal st v r work i result ≤ 13
+  collect-number : collectRefusal st v r work i result ≤ 15
   unfolding collectRefusal lentRows collectRows every
-  collect-number = firstRow-le 13 _ refl
+  collect-number = firstRow-le 15 _ refl
 
   collected-count : collectRefusal st v r work i result ≡ 0 → r .count ≤ 17
   unfolding collectRefusal giving every lentRows collectRows Failed
@@ -144,6 +150,14 @@ pub collect-room : (st : State) (table : List Record) (work : List ℕ) (i : ℕ
 unfolding collection collectionBy
 collect-room st table work i result =
     let r = getD table i free in
-    roomy _
-    (one-small (collectRefusal st (surveyBut st table i) r work i result) _ (collect-number st (surveyBut st table i) r work i result)
-    (λ z. omega (arith, collected-count st (surveyBut st table i) r work i result z)))
+    one-room (collectRefusal st (surveyBut st table i) r work i result) _ (collect-number st (surveyBut st table i) r work i result)
+    (λ z. omega (arith, collected-count st (surveyBut st table i) r work i result z))
+
+-- the stripe that an accepted rebuild step filled is one of the array's
+pub rebuild-room : (st : State) (table : List Record) (image : List ℕ) → Roomy (rebuilding st table image .reply)
+unfolding rebuilding rebuildingBy rebuildRefusal lentRows rebuildRows every
+rebuild-room st table image =
+    one-room (rebuildNumber st table image) (st .fill) (firstRow-le 15 _ refl)
+    (λ z.
+    let a = rebuild-passed st table image z in
+    omega (arith, state-filling st (a .lent .limits) (a .way), state-bounds st (a .lent .limits)))

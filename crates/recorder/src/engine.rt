@@ -8,16 +8,20 @@ ghost use Rattle.array.specs.Admission.{admission};
 ghost use Rattle.array.specs.Answers.{openedReply};
 ghost use Rattle.array.specs.Collection.{collection};
 ghost use Rattle.array.specs.Opening.{opening};
+ghost use Rattle.array.specs.Rebuilding.{rebuilding};
 ghost use Rattle.array.specs.Scan.{scanReply};
 ghost use Rattle.array.specs.Stepping.{stepping};
+ghost use Rattle.geometry.specs.Fill.{starting};
 ghost use Rattle.geometry.specs.Report.{reporting};
 ghost use Rattle.recorder.specs.Packing.{packed};
-ghost use Rattle.recorder.specs.Engine.{OpeningPacked, AdmissionPacked, SteppingPacked, ReportingPacked, CollectionPacked};
+ghost use Rattle.recorder.specs.Engine.{OpeningPacked, AdmissionPacked, SteppingPacked, ReportingPacked, StartingPacked, CollectionPacked, RebuildingPacked};
 use crate::packing::admitted;
 use crate::packing::collected;
 use crate::packing::opened;
+use crate::packing::rebuilt;
 use crate::packing::reported;
 use crate::packing::scanned;
+use crate::packing::started;
 use crate::packing::stepped;
 use array::answers::Opened;
 use geometry::Geometry;
@@ -111,6 +115,14 @@ pub extern "C" fn coppicetune_report(state: &mut State, card: u64) -> u64
     reported(calls::report(state, card))
 }
 
+// Begins a fill of the fresh card in the sleeve that is out.
+#[no_mangle]
+pub extern "C" fn coppicetune_start(state: &mut State) -> u64
+    ensures { λ r. ⌜ StartingPacked (starting (now (state .entry))) r (now (state .exit)) ⌝ }
+{
+    started(calls::start(state))
+}
+
 // Collects finished record i, which is freed.
 #[no_mangle]
 pub extern "C" fn coppicetune_collect(
@@ -131,4 +143,12 @@ pub extern "C" fn coppicetune_check(state: &State, table: &[Record], image: &[u8
     ensures { λ r. ⌜ r ≡ packed (scanReply (now (state .entry)) (now (table .entry)) (now (image .entry))) ⌝ }
 {
     scanned(calls::scan(*state, table, image))
+}
+
+// Fills the stripe at the fill place on the fresh card, and moves the fill on.
+#[no_mangle]
+pub extern "C" fn coppicetune_rebuild(state: &mut State, table: &[Record], image: &mut [u8]) -> u64
+    ensures { λ r. ⌜ RebuildingPacked (rebuilding (now (state .entry)) (now (table .entry)) (now (image .entry))) r (now (state .exit)) (now (image .exit)) ⌝ }
+{
+    rebuilt(calls::rebuild(state, table, image))
 }

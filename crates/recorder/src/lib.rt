@@ -51,9 +51,10 @@ pub extern "C" fn coppicetune_scan(
     records: u64,
     out: u64,
     lost: u64,
+    fill: u64,
     image: &[u8],
 ) -> u64
-    ensures { λ r. ⌜ r ≡ packed (idleScanReply (record { cards = cards; stripes = stripes; block = block; records = records; out = out; lost = lost }) (now (image .entry))) ⌝ }
+    ensures { λ r. ⌜ r ≡ packed (idleScanReply (record { cards = cards; stripes = stripes; block = block; records = records; out = out; lost = lost; fill = fill }) (now (image .entry))) ⌝ }
 {
     let state = State {
         cards,
@@ -62,6 +63,7 @@ pub extern "C" fn coppicetune_scan(
         records,
         out,
         lost,
+        fill,
     };
     scanned(parity::idle_scan(state, image))
 }

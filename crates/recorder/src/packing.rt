@@ -1,14 +1,17 @@
 // Answers packed as one number, as docs/C-INTERFACE.md says.
 // Assumes nothing.
 ghost use mathlib.Core.Path.{_≡_};
-ghost use Rattle.array.specs.Answers.{openedReply, admittedReply, steppedReply, collectedReply};
+ghost use Rattle.array.specs.Answers.{openedReply, admittedReply, steppedReply, collectedReply, rebuiltReply};
+ghost use Rattle.geometry.specs.Fill.{startedReply};
 ghost use Rattle.geometry.specs.Report.{reportedReply};
 ghost use Rattle.parity.specs.Scan.{reply};
 ghost use Rattle.recorder.specs.Packing.{packed, Roomy};
 use array::answers::Admitted;
 use array::answers::Collected;
 use array::answers::Opened;
+use array::answers::Rebuilt;
 use array::answers::Stepped;
+use geometry::fill::Started;
 use geometry::report::Reported;
 use parity::Scan;
 
@@ -69,6 +72,17 @@ pub(crate) fn reported(answer: Reported) -> u64
     }
 }
 
+// The answer of start.
+pub(crate) fn started(answer: Started) -> u64
+    requires { ⌜ Roomy (startedReply answer) ⌝ }
+    ensures { λ r. ⌜ r ≡ packed (startedReply answer) ⌝ }
+{
+    match answer {
+        Started::Begun => pack(0, 0, 0),
+        Started::Refused(number) => pack(number, 0, 0),
+    }
+}
+
 // The answer of collect: the count of accepted steps.
 pub(crate) fn collected(answer: Collected) -> u64
     requires { ⌜ Roomy (collectedReply answer) ⌝ }
@@ -77,6 +91,17 @@ pub(crate) fn collected(answer: Collected) -> u64
     match answer {
         Collected::Steps(count) => pack(0, count, 0),
         Collected::Refused(number) => pack(number, 0, 0),
+    }
+}
+
+// The answer of rebuild: the stripe that was filled.
+pub(crate) fn rebuilt(answer: Rebuilt) -> u64
+    requires { ⌜ Roomy (rebuiltReply answer) ⌝ }
+    ensures { λ r. ⌜ r ≡ packed (rebuiltReply answer) ⌝ }
+{
+    match answer {
+        Rebuilt::Filled(stripe) => pack(0, stripe, 0),
+        Rebuilt::Refused(number) => pack(number, 0, 0),
     }
 }
 

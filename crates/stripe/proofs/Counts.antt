@@ -1,4 +1,6 @@
--- What happens to a stripe keeps the invariant of its request's numbers, the bound on the count among them.
+-- What happens to a stripe keeps the invariant of its request's numbers, the bound on the count among them. 2n+3 allows for one fresh choice, and a
+-- request has no second one: while it is open its stripe is held, and a held stripe can't be filled, so that a position which is missing stays so until the
+-- request is finished, and the graph chosen then has no step on it.
 -- Assumes nothing.
 use Prim.Native.Nat.{ℕ, _+_, _*_, _^_, _≤_, _<_}
 use mathlib.Core.Bool.{Bool, true, false, cond, not, _||_}

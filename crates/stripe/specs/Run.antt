@@ -1,6 +1,6 @@
 -- All that can happen to a stripe while it has one open request, in any order: a request of this kind, mask and new units is admitted to a
 -- stripe that holds the row R; its steps are done, or meet the missing position and have the graph chosen afresh; a position fails; what a
--- missing position holds changes.
+-- missing position holds changes. What is missing stays missing: a stripe that an open request holds is not filled.
 -- Assumes nothing.
 use Prim.Native.Nat.{ℕ, _≤_, _<_}
 use mathlib.Core.Bool.{Bool, true}

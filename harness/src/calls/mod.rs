@@ -32,11 +32,13 @@ pub trait Calls {
     fn place(&self, cards: u64, stripes: u64, block: u64) -> u64;
     fn block_at(&self, cards: u64, stripes: u64, card: u64, stripe: u64) -> u64;
     fn scan(&self, state: &State, image: &[u8]) -> u64;
-    /// Opens an array of the numbers that are asked for; a lost mark among them plays no part.
+    /// Opens an array of the numbers that are asked for; a lost mark and a fill place among them play no part.
     fn open(&self, lent: &mut Lent, asked: &State) -> u64;
     fn admit(&self, lent: &mut Lent, write: u64, stripe: u64, mask: u64, payload: &[u8]) -> u64;
     fn step(&self, lent: &mut Lent, record: u64, step: u64) -> u64;
     fn report(&self, state: &mut State, card: u64) -> u64;
+    fn start(&self, state: &mut State) -> u64;
+    fn rebuild(&self, state: &mut State, table: &[Record], image: &mut [u8]) -> u64;
     fn collect(&self, lent: &mut Lent, record: u64, result: &mut [u8]) -> u64;
     fn check(&self, state: &State, table: &[Record], image: &[u8]) -> u64;
 }

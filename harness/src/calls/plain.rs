@@ -59,6 +59,14 @@ impl Calls for Plain {
         answer(plain::report(state, card), |()| (0, 0))
     }
 
+    fn start(&self, state: &mut State) -> u64 {
+        answer(plain::start(state), |()| (0, 0))
+    }
+
+    fn rebuild(&self, state: &mut State, table: &[Record], image: &mut [u8]) -> u64 {
+        answer(plain::rebuild(state, table, image), |stripe| (stripe, 0))
+    }
+
     fn collect(&self, lent: &mut Lent, record: u64, result: &mut [u8]) -> u64 {
         let collected = plain::collect(lent.state, lent.table, lent.work, record, result);
         answer(collected, |count| (count, 0))

@@ -6,7 +6,7 @@ use super::graph::{members, Action, DEGRADED_READ};
 use super::placement::{card_at, position_on};
 use super::record::{held, mask_fits, sound, Record, FINISHED, FREE, OPEN};
 use super::refusal::{demand, Refusal};
-use super::state::{State, NONE};
+use super::state::{State, NONE, NO_FILL};
 
 /// What an accepted step did.
 #[derive(Clone, Copy, PartialEq, Eq, Debug)]
@@ -17,14 +17,15 @@ pub enum Progress {
     Afresh(u64),
 }
 
-/// Opens an array of the numbers that are asked for: the state that it starts in, not lost. Every record is freed.
+/// Opens an array of the numbers that are asked for: the state that it starts in, not lost, with no fill under way. Every
+/// record is freed.
 pub fn open(
     asked: &State,
     table: &mut [Record],
     work: &[u8],
     image: &[u8],
 ) -> Result<State, Refusal> {
-    let state = State { lost: 0, ..*asked };
+    let state = State { lost: 0, fill: NO_FILL, ..*asked };
     demand(state.within_limits(), Refusal::Limits)?;
     demand(
         image_fits(&state, image) && table_fits(&state, table) && work_fits(&state, work),
@@ -66,8 +67,8 @@ pub fn admit(
     demand(!held(table, stripe), Refusal::Held)?;
     let free = table.iter().position(|record| record.phase == FREE).ok_or(Refusal::Full)?;
 
-    request.graph = request.graph_with(state, state.out);
-    request.chosen = state.out;
+    request.chosen = state.out_in(stripe);
+    request.graph = request.graph_with(state, request.chosen);
     table[free] = request;
     if write {
         for (unit, new) in members(mask).zip(payload.chunks_exact(state.block as usize)) {
@@ -101,9 +102,10 @@ pub fn step(
 
     request.count += 1;
     let action = plan.action(step);
-    if on_card(state, request.stripe, action) == Some(state.out) {
-        request.graph = request.graph_with(state, state.out);
-        request.chosen = state.out;
+    let out = state.out_in(request.stripe);
+    if on_card(state, request.stripe, action) == Some(out) {
+        request.graph = request.graph_with(state, out);
+        request.chosen = out;
         request.done = 0;
         return Ok(Progress::Afresh(request.graph));
     }
@@ -154,14 +156,17 @@ fn add_up(state: &State, request: &Record, record: u64, reads: u64, work: &mut [
     work[target].copy_from_slice(sum.bytes(state));
 }
 
-/// Marks a card out, or the array lost if another is out already.
+/// Marks a card out, or the array lost if another is out already. A fresh card that is reported while it
+/// fills is out in all stripes again.
 pub fn report(state: &mut State, card: u64) -> Result<(), Refusal> {
     demand(state.within_limits(), Refusal::Limits)?;
     demand(state.lost == 0, Refusal::Lost)?;
     demand(card < state.cards, Refusal::Range)?;
-    demand(card != state.out, Refusal::Out)?;
+    demand(card != state.out || state.filling(), Refusal::Out)?;
     if state.out == NONE {
         state.out = card;
+    } else if card == state.out {
+        state.fill = NO_FILL;
     } else {
         state.lost = 1;
     }
@@ -216,11 +221,11 @@ pub fn idle_scan(state: &State, image: &[u8]) -> Result<(), Refusal> {
     parity_is_right(state, &[], image)
 }
 
-fn image_fits(state: &State, image: &[u8]) -> bool {
+pub(super) fn image_fits(state: &State, image: &[u8]) -> bool {
     image.len() as u64 == state.image_length()
 }
 
-fn table_fits(state: &State, table: &[Record]) -> bool {
+pub(super) fn table_fits(state: &State, table: &[Record]) -> bool {
     table.len() as u64 == state.records
 }
 

@@ -46,6 +46,17 @@ impl Record {
         self.mask.count_ones() as u64
     }
 
+    /// The chosen-with card of an open record is 255 or the card that is out in its own stripe; that of a
+    /// finished one is 255 or any card.
+    fn chosen_fits(&self, state: &State) -> bool {
+        let known = if self.phase == OPEN {
+            self.chosen == state.out_in(self.stripe)
+        } else {
+            self.chosen < state.cards
+        };
+        self.chosen == NONE || known
+    }
+
     /// This record may stand in a table of an array in this state.
     fn sound(&self, state: &State) -> bool {
         if self.phase == FREE {
@@ -55,7 +66,7 @@ impl Record {
             && self.write <= 1
             && self.stripe < state.stripes
             && mask_fits(state, self.mask)
-            && (self.chosen == NONE || self.chosen == state.out)
+            && self.chosen_fits(state)
             && self.graph == self.graph_with(state, self.chosen);
         if !legal {
             return false;

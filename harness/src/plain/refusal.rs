@@ -1,9 +1,10 @@
-//! The thirteen refusals.
+//! The fifteen refusals.
 
 /// Why a call was refused. Lower numbers are tested first (collect tests 10 before 7).
 #[derive(Clone, Copy, PartialEq, Eq, Debug)]
 pub enum Refusal {
-    /// N, S, B or K is beyond its limits, or the card out is neither below N nor 255.
+    /// N, S, B or K is beyond its limits, the card out is neither below N nor 255, or there is a fill
+    /// place that is not below S or with no card out.
     Limits,
     /// The image, table or work store is of another length.
     Length,
@@ -17,7 +18,7 @@ pub enum Refusal {
     Mask,
     /// The payload or the result buffer does not suit the request.
     Buffer,
-    /// The stripe is held.
+    /// The stripe is held: the one asked for (admit), or the one to be filled next (rebuild).
     Held,
     /// No record is free.
     Full,
@@ -25,10 +26,14 @@ pub enum Refusal {
     Phase,
     /// The step is not in the graph, is done, or lacks one that must come before.
     Step,
-    /// That card is already out (report), or a card is out (scan).
+    /// That card is already out and no fill is under way (report), or a card is out (scan).
     Out,
     /// Parity disagrees; this is the lowest stripe and the lowest byte in it where it does.
     Parity { stripe: u64, byte: u64 },
+    /// No card is out (start), or no fill was begun (rebuild).
+    NothingToFill,
+    /// A fill is under way already (start).
+    Filling,
 }
 
 impl Refusal {
@@ -48,6 +53,8 @@ impl Refusal {
             Refusal::Step => 11,
             Refusal::Out => 12,
             Refusal::Parity { .. } => 13,
+            Refusal::NothingToFill => 14,
+            Refusal::Filling => 15,
         }
     }
 }

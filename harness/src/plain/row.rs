@@ -14,8 +14,8 @@ pub struct Row {
 }
 
 impl Row {
-    /// The row that an image stands for: each unit as it is, one on the card that is out as the
-    /// other blocks of its stripe imply.
+    /// The row that an image stands for: each unit as it is, one on the card that is out in its stripe
+    /// as the other blocks of the stripe imply.
     pub fn of(state: &State, image: &[u8]) -> Row {
         let mut bytes = Vec::with_capacity((state.units() * state.stripes * state.block) as usize);
         for stripe in 0..state.stripes {
@@ -46,19 +46,19 @@ impl Row {
     }
 
     /// The stripe on the cards says what the row says: each unit on a working card, the unit on the
-    /// card that is out by inference, and with no card out parity is right.
+    /// card that is out in it by inference, and with no card out in it parity is right.
     pub fn agrees(&self, state: &State, image: &[u8], stripe: u64) -> bool {
         let units = (0..self.units)
             .all(|unit| unit_in(state, image, stripe, unit) == self.unit(stripe, unit));
         let sum = stripe_sum(state, image, stripe, 0..state.cards);
-        units && (state.out != NONE || sum.bytes(state).iter().all(|&byte| byte == 0))
+        units && (state.out_in(stripe) != NONE || sum.bytes(state).iter().all(|&byte| byte == 0))
     }
 }
 
-/// A unit as the cards have it, or, on the card that is out, as the others imply it.
+/// A unit as the cards have it, or, on the card that is out in its stripe, as the others imply it.
 pub fn unit_in(state: &State, image: &[u8], stripe: u64, unit: u64) -> Vec<u8> {
-    let missing = state.out != NONE && position_on(state.cards, stripe, state.out) == unit;
-    if missing {
+    let out = state.out_in(stripe);
+    if out != NONE && position_on(state.cards, stripe, out) == unit {
         let others = (0..state.cards).filter(|&position| position != unit);
         stripe_sum(state, image, stripe, others).bytes(state).to_vec()
     } else {

@@ -5,6 +5,9 @@ use super::placement::position_on;
 /// The card out when none is.
 pub const NONE: u64 = 255;
 
+/// The fill place when no fill is under way.
+pub const NO_FILL: u64 = 65_535;
+
 /// The state of an array, as the caller keeps it.
 #[repr(C)]
 #[derive(Clone, Copy, PartialEq, Eq, Debug, Default)]
@@ -21,15 +24,17 @@ pub struct State {
     pub out: u64,
     /// Not 0 once a second card was reported.
     pub lost: u64,
+    /// The stripe to be filled next, or 65,535.
+    pub fill: u64,
 }
 
 impl State {
     /// An array with one record and no card out.
     pub fn whole(cards: u64, stripes: u64, block: u64) -> State {
-        State { cards, stripes, block, records: 1, out: NONE, lost: 0 }
+        State { cards, stripes, block, records: 1, out: NONE, lost: 0, fill: NO_FILL }
     }
 
-    /// N, S, B, K and the card out are all within their limits.
+    /// N, S, B, K, the card out and the fill place are all within their limits.
     pub fn within_limits(&self) -> bool {
         (3..=8).contains(&self.cards)
             && (1..=1024).contains(&self.stripes)
@@ -37,6 +42,21 @@ impl State {
             && self.block % 16 == 0
             && (1..=8).contains(&self.records)
             && (self.out < self.cards || self.out == NONE)
+            && (!self.filling() || (self.fill < self.stripes && self.out != NONE))
+    }
+
+    /// A fill is under way.
+    pub fn filling(&self) -> bool {
+        self.fill != NO_FILL
+    }
+
+    /// The card that is out in a stripe, or 255: a stripe that is filled already counts no card out.
+    pub fn out_in(&self, stripe: u64) -> u64 {
+        if self.filling() && stripe < self.fill {
+            NONE
+        } else {
+            self.out
+        }
     }
 
     /// n, the number of data units in a stripe.

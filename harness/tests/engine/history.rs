@@ -36,6 +36,7 @@ fn random_histories() {
         }
     });
     nothing_was_left_out(&tally);
+    enough_was_filled(&tally, stories);
 }
 
 /// The histories met every graph, every way to choose afresh, every refusal that a caller can bring
@@ -55,4 +56,37 @@ fn nothing_was_left_out(tally: &Tally) {
     tally.demand("collect", &[0, 4, 5, 7, 10]);
     tally.demand("check", &[0, 4, 12]);
     tally.demand("scan", &[0, 4, 12, 13]);
+    tally.demand("start", &[0, 4, 14, 15]);
+    tally.demand("rebuild", &[0, 4, 8, 14]);
+}
+
+/// So many histories had fresh cards in them, met by requests, by their own death and by the failures of others.
+fn enough_was_filled(tally: &Tally, stories: u64) {
+    tally.at_least("start", 0, stories);
+    tally.at_least("rebuild", 0, 5 * stories);
+    tally.at_least("rebuild", 8, stories);
+    // A fresh card dies before its first stripe, in the middle, and before its last one.
+    for place in 0..=2 {
+        tally.at_least("fresh card dies", place, stories / 40);
+    }
+    // With requests open, and with none.
+    tally.at_least("filled to the end", 0, stories / 10);
+    tally.at_least("filled to the end", 1, stories / 10);
+    tally.at_least("failure of another", 0, stories / 10);
+    tally.at_least("failure of the filled", 0, stories / 40);
+    for failure in 1..=4 {
+        tally.at_least("failure", failure, stories / 40);
+    }
+    // An array is lost with no fill under way, and in the middle of one.
+    tally.at_least("lost", 0, stories / 40);
+    tally.at_least("lost", 1, stories / 40);
+    // A stripe that is filled counts no card out; one to be filled has the card missing, or its parity.
+    let whole = [1, 3, 4, 5];
+    tally.only("graph, filled", &whole);
+    for graph in whole {
+        tally.at_least("graph, filled", graph, stories / 10);
+    }
+    for graph in 1..=6 {
+        tally.at_least("graph, to be filled", graph, stories / 40);
+    }
 }

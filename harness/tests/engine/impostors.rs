@@ -1,10 +1,11 @@
-//! The impostors of document 01 and some more, so that the histories are seen to find them.
+//! The impostors of document 01 and some more, among them such as fill a card wrongly, so that the histories are seen to find them.
 //!
 //! Each is the plain engine with one thing bent. Compared call by call, none gets through a story;
 //! those that document 01 names do not either when they are held to the caller's knowledge alone.
 
 use crate::story::tell;
 use harness::calls::{Answer, Calls, Lent, Plain, Record, State};
+use harness::plain::NO_FILL;
 use std::cell::Cell;
 
 #[derive(Clone, Copy, PartialEq, Eq, Debug)]
@@ -31,7 +32,42 @@ enum Bend {
     ScansHeld,
     /// A degraded read gives what the dead card holds.
     TrustsTheDead,
+    /// A rebuild step writes nothing and moves on.
+    FillsNothing,
+    /// A rebuild step fills a stripe that is held.
+    FillsHeld,
+    /// From the start on no stripe counts the fresh card out.
+    TrustsTheFresh,
+    /// A stripe that is filled counts the card out still.
+    FearsTheFilled,
+    /// The fill goes on after the fresh card's report.
+    FillsTheDead,
+    /// The fresh card's report is refused.
+    DeniesTheDeath,
+    /// After the last stripe the card is out as before.
+    NeverWhole,
 }
+
+/// All that are bent.
+const BENT: [Bend; 17] = [
+    Bend::RefusesAll,
+    Bend::Constant,
+    Bend::WritesNothing,
+    Bend::PretendsLater,
+    Bend::InventsCount,
+    Bend::SharesStripes,
+    Bend::ClearsRest,
+    Bend::CopiesEarly,
+    Bend::ScansHeld,
+    Bend::TrustsTheDead,
+    Bend::FillsNothing,
+    Bend::FillsHeld,
+    Bend::TrustsTheFresh,
+    Bend::FearsTheFilled,
+    Bend::FillsTheDead,
+    Bend::DeniesTheDeath,
+    Bend::NeverWhole,
+];
 
 struct Impostor {
     bend: Bend,
@@ -48,6 +84,17 @@ impl Impostor {
         match self.bend {
             Bend::RefusesAll => Some(1),
             Bend::Constant => Some(0),
+            _ => None,
+        }
+    }
+
+    /// The state as this one believes it to be while a card fills, if it believes something else than it is.
+    fn believed(&self, state: &State) -> Option<State> {
+        match self.bend {
+            Bend::TrustsTheFresh if state.filling() => {
+                Some(State { out: 255, fill: NO_FILL, ..*state })
+            }
+            Bend::FearsTheFilled if state.filling() => Some(State { fill: NO_FILL, ..*state }),
             _ => None,
         }
     }
@@ -81,6 +128,10 @@ impl Calls for Impostor {
     fn admit(&self, lent: &mut Lent, write: u64, stripe: u64, mask: u64, payload: &[u8]) -> u64 {
         if let Some(fixed) = self.fixed() {
             return fixed;
+        }
+        if let Some(mut state) = self.believed(lent.state) {
+            let mut bent = Lent { state: &mut state, ..lent.again() };
+            return Plain.admit(&mut bent, write, stripe, mask, payload);
         }
         let mut answer = Plain.admit(lent, write, stripe, mask, payload);
         if self.bend == Bend::SharesStripes && answer == 8 {
@@ -123,11 +174,42 @@ impl Calls for Impostor {
                 return answer;
             }
         }
+        if let Some(mut state) = self.believed(lent.state) {
+            return Plain.step(&mut Lent { state: &mut state, ..lent.again() }, record, step);
+        }
         Plain.step(lent, record, step)
     }
 
     fn report(&self, state: &mut State, card: u64) -> u64 {
-        self.fixed().unwrap_or_else(|| Plain.report(state, card))
+        if let Some(fixed) = self.fixed() {
+            return fixed;
+        }
+        match self.bend {
+            Bend::FillsTheDead if card == state.out => Plain.report(&mut state.clone(), card),
+            Bend::DeniesTheDeath if card == state.out && state.lost == 0 => 12,
+            _ => Plain.report(state, card),
+        }
+    }
+
+    fn start(&self, state: &mut State) -> u64 {
+        self.fixed().unwrap_or_else(|| Plain.start(state))
+    }
+
+    fn rebuild(&self, state: &mut State, table: &[Record], image: &mut [u8]) -> u64 {
+        if let Some(fixed) = self.fixed() {
+            return fixed;
+        }
+        let before = *state;
+        match self.bend {
+            Bend::FillsNothing => Plain.rebuild(state, table, &mut image.to_vec()),
+            Bend::FillsHeld => Plain.rebuild(state, &let_go(table, before.fill), image),
+            Bend::NeverWhole => {
+                let answer = Plain.rebuild(state, table, image);
+                state.out = before.out;
+                answer
+            }
+            _ => Plain.rebuild(state, table, image),
+        }
     }
 
     fn collect(&self, lent: &mut Lent, record: u64, result: &mut [u8]) -> u64 {
@@ -166,18 +248,7 @@ fn found(bend: Bend, alone: bool) -> bool {
 
 #[test]
 fn none_gets_through_a_comparison() {
-    for bend in [
-        Bend::RefusesAll,
-        Bend::Constant,
-        Bend::WritesNothing,
-        Bend::PretendsLater,
-        Bend::InventsCount,
-        Bend::SharesStripes,
-        Bend::ClearsRest,
-        Bend::CopiesEarly,
-        Bend::ScansHeld,
-        Bend::TrustsTheDead,
-    ] {
+    for bend in BENT {
         assert!(found(bend, false), "{bend:?} got through");
     }
     assert!(!found(Bend::Honest, false));
@@ -185,17 +256,8 @@ fn none_gets_through_a_comparison() {
 
 #[test]
 fn the_callers_knowledge_is_enough() {
-    for bend in [
-        Bend::RefusesAll,
-        Bend::Constant,
-        Bend::WritesNothing,
-        Bend::PretendsLater,
-        Bend::InventsCount,
-        Bend::SharesStripes,
-        Bend::ClearsRest,
-        Bend::ScansHeld,
-        Bend::TrustsTheDead,
-    ] {
+    // What a refused admission leaves in the work store, no caller looks at.
+    for bend in BENT.into_iter().filter(|&bend| bend != Bend::CopiesEarly) {
         assert!(found(bend, true), "{bend:?} got through");
     }
     assert!(!found(Bend::Honest, true));

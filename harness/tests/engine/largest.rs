@@ -26,7 +26,8 @@ fn request(pair: &mut Pair, write: u64, payload: Vec<u8>) -> Vec<u8> {
     result
 }
 
-/// Finds a wrong last byte, then opens, writes the last stripe, loses a card and reads it back.
+/// Finds a wrong last byte, then opens, writes the last stripe, loses a card and reads it back; fills a fresh one, loses another
+/// and reads it back once more.
 fn run(state: State) {
     let calls = tested();
     let mut random = Random::new(state.image_length());
@@ -51,22 +52,36 @@ fn run(state: State) {
     request(&mut pair, 1, payload);
     assert!(row.agrees(&pair.theirs.state, &pair.theirs.image, stripe));
     assert_eq!(call(&mut pair, Call::Check), Answer::of(0));
-    assert_eq!(call(&mut pair, Call::Report { card: cards - 1 }), Answer::of(0));
-    assert_eq!(request(&mut pair, 0, Vec::new()), row.read(stripe, mask));
+    for card in [cards - 1, 0] {
+        assert_eq!(call(&mut pair, Call::Report { card }), Answer::of(0));
+        random.fill(&mut pair.theirs.image[pair.ours.missing()]);
+        pair.ours.image.clone_from(&pair.theirs.image);
+        assert_eq!(request(&mut pair, 0, Vec::new()), row.read(stripe, mask));
+        fill(&mut pair);
+    }
+}
+
+/// Fills the card that is out to the end; parity is right then.
+fn fill(pair: &mut Pair) {
+    assert_eq!(call(pair, Call::Start), Answer::of(0));
+    for stripe in 0..pair.theirs.state.stripes {
+        assert_eq!(call(pair, Call::Rebuild), Answer::accepted(stripe, 0));
+    }
+    assert_eq!(pair.theirs.state.out, 255);
+    assert_eq!(call(pair, Call::Check), Answer::of(0));
 }
 
 #[test]
 fn the_smallest_and_the_largest_array() {
-    run(State { cards: 3, stripes: 1, block: 16, records: 1, out: 255, lost: 0 });
-    run(State { cards: 8, stripes: 1024, block: 512, records: 8, out: 255, lost: 0 });
+    run(State::whole(3, 1, 16));
+    run(State { records: 8, ..State::whole(8, 1024, 512) });
 }
 
 #[test]
 fn every_size_of_a_block() {
     for cards in 3..=8 {
         for sixteens in 1..=32 {
-            let block = 16 * sixteens;
-            run(State { cards, stripes: cards + 1, block, records: 2, out: 255, lost: 0 });
+            run(State { records: 2, ..State::whole(cards, cards + 1, 16 * sixteens) });
         }
     }
 }

@@ -19,6 +19,17 @@ fn put_off(scene: &mut Scene, record: u64, stripe: u64, position: u64) -> u64 {
 
 #[test]
 fn the_longest_request_of_every_array() {
+    longest_of_every_array(false);
+}
+
+/// The same in a stripe that is filled, when its fresh card dies.
+#[test]
+fn the_longest_request_over_a_fresh_card() {
+    longest_of_every_array(true);
+}
+
+/// Every request of every N in some stripes: on whole cards, or with the card filled that is going to die.
+fn longest_of_every_array(fresh: bool) {
     for cards in 3..=8 {
         let units = cards - 1;
         let mut longest = 0;
@@ -28,7 +39,13 @@ fn the_longest_request_of_every_array() {
                     for write in [false, true] {
                         let calls = tested();
                         let old = &UNITS[..units as usize];
-                        let mut scene = Scene::new(&calls, cards, cards, old);
+                        let mut scene = Scene::new(&calls, cards, cards + 1, old);
+                        if fresh {
+                            scene.fail(stripe, position);
+                            scene.decay(0xDD);
+                            scene.start();
+                            scene.rebuild_to(stripe + 1);
+                        }
                         let new: Vec<(u64, u8)> = (0..units)
                             .filter(|unit| mask >> unit & 1 == 1)
                             .map(|unit| (unit, 0xC0 + unit as u8))

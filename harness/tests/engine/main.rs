@@ -1,7 +1,8 @@
-//! The library, through its C calls, held to document 01 and to the plain engine.
+//! The library, through its C calls, held to document 01, to request Q-1 of document 02, and to the plain engine.
 
 mod boundary;
 mod examples;
+mod fresh;
 mod history;
 mod impostors;
 mod largest;

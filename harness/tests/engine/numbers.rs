@@ -55,23 +55,44 @@ pub fn number_of(state: &mut State, at: u64) -> &mut u64 {
         2 => &mut state.block,
         3 => &mut state.records,
         4 => &mut state.out,
-        _ => &mut state.lost,
+        5 => &mut state.lost,
+        _ => &mut state.fill,
     }
 }
 
-/// Every wild number in every number of every call and of the state.
-#[test]
-fn every_number_wild() {
+/// How many numbers a state has.
+pub const NUMBERS: u64 = 7;
+
+/// An open array of five cards and three stripes, with this card out; and one stripe of it filled, if it is to fill.
+fn opened(out: u64, filling: bool) -> Side {
     let calls = tested();
     let mut random = Random::new(5);
-    let state = State { cards: 5, stripes: 3, block: 16, records: 2, out: 255, lost: 0 };
+    let state = State { records: 2, out, ..State::whole(5, 3, 16) };
     let side = some_side(&mut random, state);
     let mut pair = Pair::new(&calls, side);
     let State { cards, stripes, block, records, out, .. } = state;
-    let open = Call::Open { cards, stripes, block, records, out };
-    assert_eq!(pair.call(&open, &mut Vec::new()).unwrap().number, 0);
-    let base = pair.theirs;
+    let mut events = vec![Call::Open { cards, stripes, block, records, out }];
+    if filling {
+        events.extend([Call::Start, Call::Rebuild]);
+    }
+    for event in events {
+        assert_eq!(pair.call(&event, &mut Vec::new()).unwrap().number, 0);
+    }
+    pair.theirs
+}
 
+/// Every wild number in every number of every call and of the state: with no card out, with one, and while it fills.
+#[test]
+fn every_number_wild() {
+    for base in [opened(255, false), opened(2, false), opened(2, true)] {
+        every_number_wild_in(&base);
+    }
+}
+
+/// The same in this array.
+fn every_number_wild_in(base: &Side) {
+    let calls = tested();
+    let State { cards, stripes, block, records, out, .. } = base.state;
     let try_all = |side: &Side, call: Call| {
         let mut result = vec![0xEE; 70];
         if let Err(what) = Pair::new(&calls, side.clone()).call(&call, &mut result) {
@@ -101,8 +122,8 @@ fn every_number_wild() {
             Call::Report { card: w },
             Call::Collect { record: w },
         ];
-        all.into_iter().for_each(|call| try_all(&base, call));
-        for which in 0..6 {
+        all.into_iter().for_each(|call| try_all(base, call));
+        for which in 0..NUMBERS {
             let mut side = base.clone();
             *number_of(&mut side.state, which) = w;
             let all = [
@@ -111,6 +132,9 @@ fn every_number_wild() {
                 Call::Admit { write: 0, stripe: 0, mask: 1, payload: vec![] },
                 Call::Step { record: 0, step: 0 },
                 Call::Report { card: 1 },
+                Call::Report { card: 2 },
+                Call::Start,
+                Call::Rebuild,
                 Call::Collect { record: 0 },
             ];
             all.into_iter().for_each(|call| try_all(&side, call));
@@ -124,9 +148,40 @@ fn every_number_wild() {
                 Call::Check,
                 Call::Admit { write: 0, stripe: 0, mask: 1, payload: vec![] },
                 Call::Step { record: 0, step: 0 },
+                Call::Rebuild,
                 Call::Collect { record: 0 },
             ];
             all.into_iter().for_each(|call| try_all(&side, call));
+        }
+    }
+}
+
+/// Every fill place at and beside a limit, in arrays of few stripes and of as many as there can be, with every card out and none: what
+/// is beyond is refused by 1 in every call that is lent the state, and what is not is not.
+#[test]
+fn every_fill_place() {
+    let calls = tested();
+    let far = [65_534, 65_535, 65_536, 1 << 32, (1 << 32) + 1, 1 << 63, u64::MAX];
+    for stripes in [1, 2, 3, 4, 5, 1023, 1024] {
+        for out in [255, 0, 1, 2, 3] {
+            for fill in [0, 1, stripes - 1, stripes, stripes + 1, 1025].into_iter().chain(far) {
+                let state = State { out, fill, ..State::whole(4, stripes, 16) };
+                let beyond = fill != 65_535 && (fill >= stripes || out == 255);
+                for call in [
+                    Call::Scan,
+                    Call::Check,
+                    Call::Admit { write: 0, stripe: 0, mask: 1, payload: vec![] },
+                    Call::Step { record: 0, step: 0 },
+                    Call::Report { card: 0 },
+                    Call::Start,
+                    Call::Rebuild,
+                    Call::Collect { record: 0 },
+                ] {
+                    let mut pair = Pair::new(&calls, Side::for_state(state));
+                    let answer = pair.call(&call, &mut Vec::new()).unwrap();
+                    assert_eq!(answer.number == 1, beyond, "{call:?} of {state:?}: {answer:?}");
+                }
+            }
         }
     }
 }

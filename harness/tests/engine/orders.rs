@@ -1,10 +1,12 @@
 //! Every order: each request of a small array in all orders of its steps, with each card reported
 //! at each moment. After every step the tested engine is compared with the plain one, and at the
-//! end the stripe with the row.
+//! end the stripe with the row; then the card is filled, and the stripe compared once more.
+//!
+//! A stripe that is filled counts no card out: what its requests come to when the fresh card dies is the same.
 
 use crate::pair::{Call, Pair, Side};
 use crate::tested;
-use harness::calls::{Calls, Record, State};
+use harness::calls::{Answer, Calls, Record, State};
 use harness::plain::blocks::make_right;
 use harness::plain::Row;
 
@@ -29,8 +31,10 @@ fn go_on(calls: &dyn Calls, here: &Side, row: &Row, steps: u64, ways: &mut u64) 
         assert_eq!(record.count, steps);
         assert!(row.agrees(&here.state, &here.image, record.stripe));
         collect(calls, here, row, record);
+        fill(calls, here, row, record.stripe);
         return;
     }
+    holds(calls, here);
     let mut taken = 0;
     for step in 0..=2 * units + 3 {
         let mut pair = Pair::new(calls, here.clone());
@@ -54,20 +58,32 @@ fn collect(calls: &dyn Calls, here: &Side, row: &Row, record: Record) {
     assert!(result[read.len()..].iter().all(|&byte| byte == 0xEE));
 }
 
-/// All ways of a request in which `card` is reported, and its bytes are lost, after each set of
-/// done steps in turn.
-fn every_way(calls: &dyn Calls, admitted: &Side, row: &Row, card: u64, ways: &mut u64) {
+/// Fills the card that is out, with the finished request in its record still; the stripe says what the row says, on every card.
+fn fill(calls: &dyn Calls, here: &Side, row: &Row, stripe: u64) {
+    let mut pair = Pair::new(calls, here.clone());
+    assert_eq!(pair.call(&Call::Start, &mut Vec::new()), Ok(Answer::accepted(0, 0)));
+    for filled in 0..here.state.stripes {
+        let answer = pair.call(&Call::Rebuild, &mut Vec::new());
+        assert_eq!(answer, Ok(Answer::accepted(filled, 0)));
+    }
+    assert_eq!(pair.theirs.state.out, 255);
+    assert!(row.agrees(&pair.theirs.state, &pair.theirs.image, stripe));
+}
+
+/// While the request is open its stripe is not filled.
+fn holds(calls: &dyn Calls, here: &Side) {
+    let fill = here.table[0].stripe;
+    let mut pair = Pair::new(calls, Side { state: State { fill, ..here.state }, ..here.clone() });
+    assert_eq!(pair.call(&Call::Rebuild, &mut Vec::new()), Ok(Answer::refused(8)));
+}
+
+/// The request after each set of its steps in turn, with `card` reported there and its bytes lost.
+fn after_reports(calls: &dyn Calls, admitted: &Side, card: u64) -> Vec<Side> {
     let units = admitted.state.units();
     let mut seen = vec![admitted.clone()];
-    let mut at = 0;
-    while at < seen.len() {
-        let here = seen[at].clone();
-        at += 1;
-        let mut failed = Pair::new(calls, here.clone());
-        failed.call(&Call::Report { card }, &mut Vec::new()).unwrap();
-        let lost = failed.theirs.card(card);
-        failed.theirs.image[lost].fill(0xDD);
-        go_on(calls, &failed.theirs, row, here.table[0].count, ways);
+    let mut failed = Vec::new();
+    while let Some(here) = seen.get(failed.len()).cloned() {
+        failed.push(report(calls, &here, card));
         for step in 0..=2 * units + 2 {
             let mut next = Pair::new(calls, here.clone());
             let answer = next.call(&Call::Step { record: 0, step }, &mut Vec::new()).unwrap();
@@ -77,26 +93,55 @@ fn every_way(calls: &dyn Calls, admitted: &Side, row: &Row, card: u64, ways: &mu
             }
         }
     }
+    failed
 }
 
-/// All ways of all requests on one stripe; how many there are.
+/// Reports the card, which is out in all stripes then, and loses its bytes.
+fn report(calls: &dyn Calls, here: &Side, card: u64) -> Side {
+    let mut failed = Pair::new(calls, here.clone());
+    let reported = failed.call(&Call::Report { card }, &mut Vec::new());
+    assert_eq!(reported, Ok(Answer::accepted(0, 0)));
+    assert_eq!((failed.theirs.state.out, failed.theirs.state.fill), (card, 65_535));
+    let lost = failed.theirs.card(card);
+    failed.theirs.image[lost].fill(0xDD);
+    failed.theirs
+}
+
+/// The array before the request: the card that is going to die is whole, or a fresh one that is filled up to this stripe, with one
+/// more to go.
+fn before(cards: u64, stripe: u64, card: u64, fresh: bool) -> Side {
+    let mut side = array(cards, stripe + 2);
+    if fresh {
+        side.state = State { out: card, fill: stripe + 1, ..side.state };
+        let missing = side.missing();
+        side.image[missing].fill(0xCC);
+    }
+    side
+}
+
+/// All ways of all requests on one stripe; how many there are. A fresh card that dies leads to just the same as a whole one.
 fn ways_of(cards: u64, stripe: u64) -> u64 {
     let calls = tested();
-    let units = cards - 1;
     let mut ways = 0;
-    for write in [0, 1] {
-        for mask in 1u64..1 << units {
-            let mut pair = Pair::new(&calls, array(cards, stripe + 1));
-            let mut row = Row::of(&pair.theirs.state, &pair.theirs.image);
+    for (write, card) in (0..cards).flat_map(|card| [(0, card), (1, card)]) {
+        for mask in 1u64..1 << (cards - 1) {
             let payload: Vec<u8> = match write {
                 0 => Vec::new(),
                 _ => (0..16 * mask.count_ones()).map(|at| (at * 59 + 7) as u8).collect(),
             };
+            let [whole, fresh] = [false, true].map(|fresh| {
+                let mut pair = Pair::new(&calls, before(cards, stripe, card, fresh));
+                let admit = Call::Admit { write, stripe, mask, payload: payload.clone() };
+                assert_eq!(pair.call(&admit, &mut Vec::new()), Ok(Answer::accepted(0, 0)));
+                assert_eq!(pair.theirs.table[0].chosen, 255);
+                after_reports(&calls, &pair.theirs, card)
+            });
+            assert!(whole == fresh, "stripe {stripe}, mask {mask:b}, card {card}");
+            let array = array(cards, stripe + 2);
+            let mut row = Row::of(&array.state, &array.image);
             row.write(stripe, if write == 1 { mask } else { 0 }, &payload);
-            let admit = Call::Admit { write, stripe, mask, payload };
-            assert_eq!(pair.call(&admit, &mut Vec::new()).unwrap().number, 0);
-            for card in 0..cards {
-                every_way(&calls, &pair.theirs, &row, card, &mut ways);
+            for here in &whole {
+                go_on(&calls, here, &row, here.table[0].count, &mut ways);
             }
         }
     }

@@ -45,6 +45,8 @@ pub enum Call {
     Admit { write: u64, stripe: u64, mask: u64, payload: Vec<u8> },
     Step { record: u64, step: u64 },
     Report { card: u64 },
+    Start,
+    Rebuild,
     Collect { record: u64 },
     Check,
 }
@@ -60,6 +62,8 @@ impl Call {
             Call::Admit { .. } => "admit",
             Call::Step { .. } => "step",
             Call::Report { .. } => "report",
+            Call::Start => "start",
+            Call::Rebuild => "rebuild",
             Call::Collect { .. } => "collect",
             Call::Check => "check",
         }
@@ -75,13 +79,15 @@ impl Call {
             }
             Call::Scan => calls.scan(lent.state, lent.image),
             Call::Open { cards, stripes, block, records, out } => {
-                calls.open(lent, &State { cards, stripes, block, records, out, lost: 0 })
+                calls.open(lent, &State { records, out, ..State::whole(cards, stripes, block) })
             }
             Call::Admit { write, stripe, mask, ref payload } => {
                 calls.admit(lent, write, stripe, mask, payload)
             }
             Call::Step { record, step } => calls.step(lent, record, step),
             Call::Report { card } => calls.report(lent.state, card),
+            Call::Start => calls.start(lent.state),
+            Call::Rebuild => calls.rebuild(lent.state, lent.table, lent.image),
             Call::Collect { record } => calls.collect(lent, record, result),
             Call::Check => calls.check(lent.state, lent.table, lent.image),
         })
@@ -94,7 +100,7 @@ pub struct Pair<'a> {
     pub theirs: Side,
     pub ours: Side,
     before: Side,
-    /// The bytes on the card that is out may differ between the two sides.
+    /// The bytes that are missing may differ between the two sides.
     pub decays_apart: bool,
     /// The tested engine is run alone and compared with nothing.
     pub alone: bool,
@@ -152,7 +158,7 @@ impl<'a> Pair<'a> {
         if theirs.work != ours.work {
             return Some("work stores differ".to_string());
         }
-        let skipped = if self.decays_apart { ours.card_out() } else { 0..0 };
+        let skipped = if self.decays_apart { ours.missing() } else { 0..0 };
         let same = theirs.image.len() == ours.image.len()
             && theirs.image[..skipped.start] == ours.image[..skipped.start]
             && theirs.image[skipped.end..] == ours.image[skipped.end..];
@@ -161,12 +167,13 @@ impl<'a> Pair<'a> {
 }
 
 impl Side {
-    /// The bytes of the card that is out.
-    pub fn card_out(&self) -> std::ops::Range<usize> {
-        if self.state.out < self.state.cards {
-            self.card(self.state.out)
-        } else {
-            0..0
+    /// The bytes of the card that is out, in the stripes that are not filled.
+    pub fn missing(&self) -> std::ops::Range<usize> {
+        if self.state.out >= self.state.cards {
+            return 0..0;
         }
+        let card = self.card(self.state.out);
+        let filled = if self.state.filling() { self.state.fill * self.state.block } else { 0 };
+        card.start + filled as usize..card.end
     }
 }

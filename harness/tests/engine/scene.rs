@@ -14,7 +14,7 @@ pub struct Scene<'a> {
 impl<'a> Scene<'a> {
     /// An open array with no card out, each stripe with these units and their parity.
     pub fn new(calls: &'a dyn Calls, cards: u64, stripes: u64, units: &[u8]) -> Scene<'a> {
-        let state = State { cards, stripes, block: 16, records: 4, out: 255, lost: 0 };
+        let state = State { records: 4, ..State::whole(cards, stripes, 16) };
         let mut side = Side::for_state(state);
         for stripe in 0..stripes {
             let parity = units.iter().fold(0, |sum, byte| sum ^ byte);
@@ -32,7 +32,7 @@ impl<'a> Scene<'a> {
         self.pair.call(&call, &mut self.result).unwrap_or_else(|what| panic!("{what}"))
     }
 
-    fn state(&self) -> State {
+    pub fn state(&self) -> State {
         self.pair.theirs.state
     }
 
@@ -88,6 +88,29 @@ impl<'a> Scene<'a> {
     pub fn fail(&mut self, stripe: u64, position: u64) {
         let card = card_at(self.state().cards, stripe, position);
         assert_eq!(self.call(Call::Report { card }).number, 0, "card {card} reported");
+    }
+
+    /// All bytes that are missing turn to this one.
+    pub fn decay(&mut self, byte: u8) {
+        let missing = self.pair.theirs.missing();
+        self.pair.theirs.image[missing.clone()].fill(byte);
+        self.pair.ours.image[missing].fill(byte);
+    }
+
+    /// Begins to fill the card that is out.
+    pub fn start(&mut self) {
+        assert_eq!(self.call(Call::Start), Answer::accepted(0, 0), "started");
+    }
+
+    /// Takes rebuild steps until this stripe is to be filled next, or with S until no card is out.
+    pub fn rebuild_to(&mut self, end: u64) {
+        for stripe in self.state().fill..end {
+            assert_eq!(
+                self.call(Call::Rebuild),
+                Answer::accepted(stripe, 0),
+                "stripe {stripe} filled"
+            );
+        }
     }
 
     /// Tries all steps, in any order that works, until the request is finished.

@@ -17,13 +17,14 @@ pub fn likely_record(random: &mut Random, state: &State) -> Record {
         stripe: random.below(state.stripes),
         mask: random.between(1, (1 << units) - 1),
         graph: 0,
-        chosen: random.pick(&[255, state.out]),
+        chosen: 255,
         done: 0,
         count: random.between(0, 2 * units + 3),
     };
     if record.phase == 0 {
         return if random.chance(9, 10) { Record::default() } else { record };
     }
+    record.chosen = likely_card(random, state, &record);
     record.graph = record.graph_with(state, record.chosen);
     let plan = record.plan(state);
     // Steps that are ready one after another, all of them or up to some point.
@@ -42,6 +43,18 @@ pub fn likely_record(random: &mut Random, state: &State) -> Record {
     record
 }
 
+/// A card that a record may have been chosen with: mostly one that is sound.
+fn likely_card(random: &mut Random, state: &State, record: &Record) -> u64 {
+    let any = random.below(state.cards);
+    match random.below(16) {
+        0 => any,
+        1 => state.out,
+        2..=7 => 255,
+        _ if record.phase == 2 => any,
+        _ => state.out_in(record.stripe),
+    }
+}
+
 /// Records that fit together or nearly do: as many sound tables as others, reachable or not.
 #[test]
 fn likely_tables() {
@@ -52,17 +65,21 @@ fn likely_tables() {
         let mut state = some_state(&mut random);
         state.stripes = random.between(1, 20);
         state.block = 16;
+        if state.out != 255 && random.chance(2, 3) {
+            state.fill = random.below(state.stripes);
+        }
         let mut side = Side::for_state(state);
         for record in &mut side.table {
             *record = likely_record(&mut random, &state);
         }
-        let call = match round % 4 {
+        let call = match round % 5 {
             0 => Call::Check,
             1 => some_admit(&mut random, &state),
             2 => Call::Step {
                 record: random.below(state.records),
                 step: random.below(2 * state.cards + 1),
             },
+            3 => Call::Rebuild,
             _ => Call::Collect { record: random.below(state.records) },
         };
         sound_ones += sound(&state, &side.table) as u64;
@@ -83,7 +100,7 @@ fn every_set_of_done_steps() {
             if cards == 6 && stripe == 0 {
                 continue;
             }
-            let state = State { cards, stripes: 2, block: 16, records: 1, out, lost: 1 };
+            let state = State { out, lost: 1, ..State::whole(cards, 2, 16) };
             let image = vec![0; state.image_length() as usize];
             for (mask, write) in (1..1 << units).flat_map(|mask| [(mask, 0), (mask, 1)]) {
                 let mut record = Record { stripe, mask, write, chosen: out, ..Record::default() };
@@ -100,16 +117,52 @@ fn every_set_of_done_steps() {
     }
 }
 
-/// Every record there can be, for N = 3 and one stripe, with each card out and none.
+/// The chosen-with card of a request with all steps of its graph done or none, in every state with a card out, a fill at any
+/// place, or neither: an open one's is 255 or the card that is out in its own stripe, a finished one's 255 or any card.
+#[test]
+fn every_chosen_with_card() {
+    let calls = tested();
+    for state in (3..=8).flat_map(every_fill) {
+        let image = vec![0; state.image_length() as usize];
+        for (stripe, write) in (0..state.stripes).flat_map(|stripe| [(stripe, 0), (stripe, 1)]) {
+            for chosen in (0..=state.cards).chain([254, 255, 256, u64::MAX]) {
+                let known = if chosen <= state.cards { chosen % state.cards } else { 255 };
+                let record = Record { write, stripe, mask: 1, chosen, ..Record::default() };
+                let record = Record { graph: record.graph_with(&state, known), ..record };
+                let steps = Record { chosen: known, ..record }.plan(&state).steps();
+                let to_fill = state.fill <= stripe || state.fill == 65_535;
+                let missing = if to_fill { state.out } else { 255 };
+                let open = chosen == 255 || chosen == missing;
+                let finished = chosen == 255 || chosen < state.cards;
+                for (phase, done, sound) in [(1, 0, open), (2, steps, finished)] {
+                    let record = Record { phase, done, ..record };
+                    let answer = calls.check(&state, &[record], &image);
+                    assert_eq!(answer, if sound { 4 } else { 3 }, "{record:?} in {state:?}");
+                }
+            }
+        }
+    }
+}
+
+/// Lost arrays of N cards and N stripes: no card out, or each, with no fill under way or one at every place.
+fn every_fill(cards: u64) -> impl Iterator<Item = State> {
+    let whole = State { lost: 1, ..State::whole(cards, cards, 16) };
+    let places =
+        move |out| (0..cards).chain([65_535]).map(move |fill| State { out, fill, ..whole });
+    (0..cards).flat_map(places).chain([whole])
+}
+
+/// Every record there can be, for N = 3: of one stripe with each card out and none, and of two of which one is filled.
 #[test]
 fn every_record_of_three_cards() {
     let calls = tested();
     let mut sound_ones = 0;
-    for out in [255, 0, 1, 2] {
-        let state = State { cards: 3, stripes: 1, block: 16, records: 1, out, lost: 0 };
-        // A lost array refuses with 4 only if the table is sound, and looks at nothing else.
-        let state = State { lost: 1, ..state };
-        let image = [0; 48];
+    // A lost array refuses with 4 only if the table is sound, and looks at nothing else.
+    let lost = |stripes| State { lost: 1, ..State::whole(3, stripes, 16) };
+    let one = [255, 0, 1, 2].map(|out| State { out, ..lost(1) });
+    let two = [0, 1, 2].map(|out| State { out, fill: 1, ..lost(2) });
+    for state in one.into_iter().chain(two) {
+        let image = vec![0; state.image_length() as usize];
         for numbers in 0..4u64 * 3 * 2 * 6 * 8 * 5 {
             let mut rest = numbers;
             let mut next = |end| {
@@ -125,7 +178,7 @@ fn every_record_of_three_cards() {
                     let record = Record { phase, write, stripe, mask, graph, chosen, done, count };
                     let theirs = calls.check(&state, &[record], &image);
                     let ours = Plain.check(&state, &[record], &image);
-                    assert_eq!(theirs, ours, "{record:?} with {out} out");
+                    assert_eq!(theirs, ours, "{record:?} in {state:?}");
                     sound_ones += (ours == 4) as u64;
                 }
             }

@@ -30,6 +30,12 @@ impl Tally {
         }
     }
 
+    /// This number was met so many times at least.
+    pub fn at_least(&self, what: &'static str, number: u64, times: u64) {
+        let met = self.count(what, number);
+        assert!(met >= times, "{what} {number} was met {met} times, and not {times}");
+    }
+
     /// No other number was met.
     pub fn only(&self, what: &'static str, numbers: &[u64]) {
         for (&(name, number), _) in self.seen.iter().filter(|((name, _), _)| *name == what) {

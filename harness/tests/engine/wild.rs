@@ -1,7 +1,7 @@
 //! Wild input: tables with one field changed or of noise, buffers of other lengths, wild numbers in
 //! every argument. The tested engine answers as the plain one does, and a refusal alters nothing.
 
-use crate::numbers::{field, maybe_wild, mostly_below, number_of, wild_number};
+use crate::numbers::{field, maybe_wild, mostly_below, number_of, wild_number, NUMBERS};
 use crate::pair::{Call, Pair, Side};
 use crate::story::Story;
 use crate::tables::likely_record;
@@ -54,11 +54,11 @@ fn alter_length<T: Copy + Default>(random: &mut Random, list: &mut Vec<T>) {
 /// Changes what is lent for an array of this state: the table, a number of the state, a length; or
 /// nothing.
 fn alter_side(random: &mut Random, state: &State, side: &mut Side) {
-    match random.below(10) {
+    match random.below(11) {
         _ if side.table.is_empty() || side.image.is_empty() => {}
         0..=4 => alter_table(random, state, &mut side.table),
         5 => {
-            let which = random.below(6);
+            let which = random.below(NUMBERS);
             *number_of(&mut side.state, which) = wild_number(random);
         }
         6 => match random.below(3) {
@@ -72,6 +72,12 @@ fn alter_side(random: &mut Random, state: &State, side: &mut Side) {
         8 => {
             let at = random.below(side.image.len() as u64) as usize;
             side.image[at] ^= 1 << random.below(8);
+        }
+        9 => {
+            // A fill place with a card out, or none; mostly below S.
+            let card = random.below(state.cards);
+            side.state.out = random.pick(&[state.out, card]);
+            side.state.fill = mostly_below(random, state.stripes);
         }
         _ => {}
     }
@@ -99,7 +105,7 @@ pub fn some_admit(random: &mut Random, state: &State) -> Call {
 fn some_call(random: &mut Random, state: &State) -> Call {
     let cards = random.between(3, 8);
     let stripes = random.between(1, 1024);
-    match random.below(9) {
+    match random.below(11) {
         0 => Call::Place {
             cards: maybe_wild(random, cards),
             stripes: maybe_wild(random, stripes),
@@ -126,6 +132,8 @@ fn some_call(random: &mut Random, state: &State) -> Call {
         },
         6 => Call::Report { card: mostly_below(random, state.cards) },
         7 => Call::Collect { record: mostly_below(random, state.records) },
+        8 => Call::Start,
+        9 => Call::Rebuild,
         _ => Call::Check,
     }
 }
@@ -168,13 +176,15 @@ fn wild_calls() {
         }
     }
     // Each call gave every number that it can give, and no other.
-    let can_give: [(&'static str, &[u64]); 9] = [
+    let can_give: [(&'static str, &[u64]); 11] = [
         ("place", &[0, 1, 5]),
         ("block_at", &[0, 1, 5]),
         ("open", &[0, 1, 2, 13]),
         ("admit", &[0, 1, 2, 3, 4, 5, 6, 7, 8, 9]),
         ("step", &[0, 1, 2, 3, 4, 5, 10, 11]),
         ("report", &[0, 1, 4, 5, 12]),
+        ("start", &[0, 1, 4, 14, 15]),
+        ("rebuild", &[0, 1, 2, 3, 4, 8, 14]),
         ("collect", &[0, 1, 2, 3, 4, 5, 7, 10]),
         ("check", &[0, 1, 2, 3, 4, 12, 13]),
         ("scan", &[0, 1, 2, 4, 12, 13]),

@@ -11,12 +11,10 @@ fn same(state: &State, record: Record) -> bool {
     plain
 }
 
-/// Every request of an array in a state, chosen with the card that is out or with none, its graph the table's, no step done.
-pub fn requests(state: &State) -> Vec<Record> {
+/// Every request of an array in a state, chosen with any of these cards, its graph the table's, no step done.
+pub fn requests(state: &State, cards: &[u64]) -> Vec<Record> {
     let mut all = Vec::new();
-    let mut cards = vec![NONE];
-    cards.extend(Some(state.out).filter(|&out| out != NONE));
-    for &chosen in &cards {
+    for &chosen in cards {
         for stripe in 0..state.stripes {
             for (mask, write) in (1..1 << state.units()).flat_map(|mask| [(mask, 0), (mask, 1)]) {
                 let request = Record {
@@ -40,8 +38,21 @@ pub fn requests(state: &State) -> Vec<Record> {
 pub fn states(cards: u64) -> Vec<State> {
     (0..cards)
         .chain([NONE])
-        .map(|out| State { cards, stripes: cards, block: 16, records: 8, out, lost: 0 })
+        .map(|out| State { records: 8, out, ..State::whole(cards, cards, 16) })
         .collect()
+}
+
+/// The same with a fill under way, at every place.
+fn filling(cards: u64) -> Vec<State> {
+    let places = |state: State| (0..cards).map(move |fill| State { fill, ..state });
+    states(cards).into_iter().filter(|state| state.out != NONE).flat_map(places).collect()
+}
+
+/// The cards that a request is chosen with where no fill is under way: none, and the one that is out.
+fn chosen_with(state: &State) -> Vec<u64> {
+    let mut cards = vec![NONE, state.out];
+    cards.dedup();
+    cards
 }
 
 /// Every set of steps of every request there can be, open and finished, with counts at their limits.
@@ -51,7 +62,7 @@ fn every_done_set_of_every_request() {
     for cards in 3..=8 {
         let longest = 2 * (cards - 1) + 3;
         for state in states(cards) {
-            for request in requests(&state) {
+            for request in requests(&state, &chosen_with(&state)) {
                 let steps = request.plan(&state).steps();
                 for done in subsets(steps) {
                     let record = Record { done, count: longest - 1, ..request };
@@ -70,6 +81,37 @@ fn every_done_set_of_every_request() {
         }
     }
     assert!(sound_ones > 1_000_000, "{sound_ones} sound records");
+}
+
+/// The chosen-with card, in every state with a fill under way at any place or none: an open record's is 255 or the card that is
+/// out in its own stripe, a finished one's 255 or any card; no other number is one.
+#[test]
+fn every_chosen_with_card() {
+    for cards in 3..=8 {
+        let every: Vec<u64> = (0..cards).chain([NONE]).collect();
+        for state in states(cards).into_iter().chain(filling(cards)) {
+            for request in requests(&state, &every) {
+                let Record { stripe, chosen, .. } = request;
+                let filled = state.fill != 65_535 && stripe < state.fill;
+                let missing = if filled { NONE } else { state.out };
+                let open = chosen == NONE || chosen == missing;
+                assert_eq!(same(&state, request), open, "{request:?} in {state:?}");
+                let done = request.plan(&state).steps();
+                let finished = Record { phase: FINISHED, done, ..request };
+                assert!(same(&state, finished), "{finished:?} in {state:?}");
+                for chosen in [cards, 254, 256, u64::MAX].iter().filter(|_| chosen == NONE) {
+                    let (open, finished) = (
+                        Record { chosen: *chosen, ..request },
+                        Record { chosen: *chosen, ..finished },
+                    );
+                    assert!(
+                        !same(&state, open) && !same(&state, finished),
+                        "{open:?} in {state:?}"
+                    );
+                }
+            }
+        }
+    }
 }
 
 /// Numbers at and beside every limit, and at every width.
@@ -117,7 +159,7 @@ fn each_field_wild() {
     for cards in 3..=8 {
         for state in states(cards) {
             let numbers = wild(&state);
-            let mut records = requests(&state);
+            let mut records = requests(&state, &chosen_with(&state));
             records.push(Record::default());
             for request in records {
                 let steps = if request.phase == OPEN { request.plan(&state).steps() } else { 0 };
@@ -139,15 +181,23 @@ fn each_field_wild() {
 fn wild_states() {
     let record = Record { phase: OPEN, mask: 1, graph: 1, chosen: NONE, ..Record::default() };
     for cards in [9, 10, 64, 65, 1 << 32, u64::MAX] {
-        let state = State { cards, stripes: u64::MAX, block: 16, records: 8, out: 0, lost: 0 };
+        let state = State { records: 8, out: 0, ..State::whole(cards, u64::MAX, 16) };
         assert!(!sound_by_library(&state, &[record]));
         assert!(!sound_by_library(&state, &[Record::default()]));
     }
     for cards in 0..3 {
-        let state = State { cards, stripes: 4, block: 16, records: 8, out: NONE, lost: 0 };
+        let state = State { records: 8, ..State::whole(cards, 4, 16) };
         assert!(sound_by_library(&state, &[Record::default()]));
         for mask in 0..16 {
             sound_by_library(&state, &[Record { mask, ..record }]);
+        }
+    }
+    // Fill places that no state has: nothing traps, and a free record is sound.
+    for fill in [5, 6, 1024, 65_534, 65_536, 1 << 32, u64::MAX] {
+        for out in [NONE, 0, 4] {
+            let state = State { records: 8, out, fill, ..State::whole(5, 5, 16) };
+            assert!(sound_by_library(&state, &[Record::default()]));
+            sound_by_library(&state, &[Record { chosen: out, ..record }]);
         }
     }
 }

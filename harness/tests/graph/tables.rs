@@ -11,7 +11,13 @@ fn full(state: &State) -> Vec<Record> {
         .map(|at| {
             let stripe = at % state.stripes;
             let mask = [1, (1 << units) - 1, 2, (1 << units) - 2][at as usize % 4];
-            let chosen = if at % 2 == 0 { state.out } else { NONE };
+            // Open ones are of stripes 0 to 3, and the finished ones chosen with any card.
+            let chosen = match at {
+                0 | 2 => state.out_in(stripe),
+                4 => (state.out + 1) % state.cards,
+                6 => state.out,
+                _ => NONE,
+            };
             let request = Record {
                 phase: OPEN,
                 write: (at % 3 > 0) as u64,
@@ -31,15 +37,18 @@ fn full(state: &State) -> Vec<Record> {
 
 fn states() -> impl Iterator<Item = State> {
     (4..=8u64).flat_map(|cards| {
-        (0..cards).chain([NONE]).map(move |out| State {
-            cards,
-            stripes: 4,
-            block: 16,
-            records: 8,
-            out,
-            lost: 0,
-        })
+        let state = State { records: 8, ..State::whole(cards, 4, 16) };
+        let out = (0..cards).chain([NONE]).map(move |out| State { out, ..state });
+        let filling = (0..4).map(move |fill| State { out: fill, fill, ..state });
+        out.chain(filling)
     })
+}
+
+/// An open request that was chosen with a card that is not out in its stripe, and so with that card's graph.
+fn with_a_card_that_is_in(state: &State, record: &mut Record) {
+    let chosen = if state.out_in(record.stripe) == 0 { 1 } else { 0 };
+    let graph = record.graph_with(state, chosen);
+    *record = Record { phase: OPEN, chosen, graph, done: 0, count: 0, ..*record };
 }
 
 /// Ways to break one clause, of the paper's sentence in its order.
@@ -54,7 +63,9 @@ const BREAKS: &[(&str, Break)] = &[
     ("no graph", |_, r| r.graph = 0),
     ("a seventh graph", |_, r| r.graph = 7),
     ("another graph than the table's", |_, r| r.graph = r.graph % 6 + 1),
-    ("chosen with another card", |s, r| r.chosen = if s.out == 0 { 1 } else { 0 }),
+    ("an open one chosen with a card that is in", with_a_card_that_is_in),
+    ("chosen with card N", |s, r| r.chosen = s.cards),
+    ("chosen with card 254", |_, r| r.chosen = 254),
     ("a done step that no graph has", |s, r| r.done |= 1 << (2 * s.units() + 3)),
     ("more counted than can be", |s, r| r.count = 2 * s.units() + 4),
     ("a finished one that lacks a step", |_, r| {
@@ -114,7 +125,7 @@ fn a_forerunner_that_is_not_done() {
 /// Two open records on one stripe, at every two places; and one open, one finished.
 #[test]
 fn two_on_one_stripe() {
-    let state = State { cards: 8, stripes: 64, block: 16, records: 8, out: NONE, lost: 0 };
+    let state = State { records: 8, ..State::whole(8, 64, 16) };
     let open = Record { phase: OPEN, mask: 1, graph: 1, chosen: NONE, ..Record::default() };
     let finished = Record { phase: FINISHED, done: 1, ..open };
     let apart: Vec<Record> = (0..8).map(|at| Record { stripe: 8 * at, ..open }).collect();
@@ -133,7 +144,7 @@ fn two_on_one_stripe() {
 /// Of tables of every length up to eight, free, open and finished records in every order: the lowest free record, and which stripes are held.
 #[test]
 fn free_records_and_held_stripes() {
-    let state = State { cards: 8, stripes: 8, block: 16, records: 8, out: NONE, lost: 0 };
+    let state = State { records: 8, ..State::whole(8, 8, 16) };
     let open = Record { phase: OPEN, mask: 1, graph: 1, chosen: NONE, ..Record::default() };
     let finished = Record { phase: FINISHED, done: 1, ..open };
     for phases in 0..3usize.pow(8) {

@@ -2,8 +2,10 @@
 -- Assumes nothing.
 use mathlib.Core.Path.{refl, sym, _∙_}
 use borrow.Author.Needs.{needs}
+use Rattle.geometry.proofs.States.{state-bounds}
 use Rattle.parity.specs.Scan.{reply, scanOf}
-use Rattle.parity.proofs.Replies.{image-whole, image-not-whole, idle-beyond, idle-length, idle-lost, idle-out, idle-all}
+use Rattle.parity.proofs.Inside.{image-whole, image-not-whole}
+use Rattle.parity.proofs.Replies.{idle-beyond, idle-length, idle-lost, idle-out, idle-all}
 use Rattle.parity.proofs.idle_scan.Statement.{statement}
 use Rattle.parity.proofs.idle_scan.Tie as tie
 
@@ -27,7 +29,7 @@ returns-2 c = (
   let args = c .before .before .before .before .before .args in
       let inside = sym (c .before .before .before .beyond .ensures) ∙ c .before .before .if1 .left in
       idle-length (args .state) (args .image .now) inside
-      (image-not-whole (args .state) (args .image .now) inside (λ q. c .if2 .taken (q ∙ sym (c .before .image-size .ensures)))),
+      (image-not-whole (args .state) (args .image .now) (state-bounds (args .state) inside) (λ q. c .if2 .taken (q ∙ sym (c .before .image-size .ensures)))),
   refl,
 )
 
@@ -39,7 +41,7 @@ unfolding reply scanOf
 returns-3 c = (
   let args = c .before .before .before .before .before .before .before .args in
       let inside = sym (c .before .before .before .before .before .beyond .ensures) ∙ c .before .before .before .before .if1 .left in
-      let whole = image-whole (args .state) (args .image .now) inside (c .before .before .if2 .left ∙ c .before .before .before .image-size .ensures) in
+      let whole = image-whole (args .state) (args .image .now) (state-bounds (args .state) inside) (c .before .before .if2 .left ∙ c .before .before .before .image-size .ensures) in
       idle-lost (args .state) (args .image .now) inside whole (sym (c .before .is-lost .ensures) ∙ c .if3 .taken),
   refl,
 )
@@ -49,7 +51,7 @@ unfolding reply scanOf
 returns-4 c = (
   let args = c .before .before .before .before .before .before .before .before .args in
       let inside = sym (c .before .before .before .before .before .before .beyond .ensures) ∙ c .before .before .before .before .before .if1 .left in
-      let whole = image-whole (args .state) (args .image .now) inside (c .before .before .before .if2 .left ∙ c .before .before .before .before .image-size .ensures) in
+      let whole = image-whole (args .state) (args .image .now) (state-bounds (args .state) inside) (c .before .before .before .if2 .left ∙ c .before .before .before .before .image-size .ensures) in
       idle-out (args .state) (args .image .now) inside whole (sym (c .before .before .is-lost .ensures) ∙ c .before .if3 .left) (c .if4 .taken),
   refl,
 )
@@ -62,7 +64,7 @@ unfolding reply scanOf
 returns-5 c = (
   let args = c .before .before .before .before .before .before .before .before .before .args in
       let inside = sym (c .before .before .before .before .before .before .before .beyond .ensures) ∙ c .before .before .before .before .before .before .if1 .left in
-      let whole = image-whole (args .state) (args .image .now) inside (c .before .before .before .before .if2 .left ∙ c .before .before .before .before .before .image-size .ensures) in
+      let whole = image-whole (args .state) (args .image .now) (state-bounds (args .state) inside) (c .before .before .before .before .if2 .left ∙ c .before .before .before .before .before .image-size .ensures) in
       c .scan-but .ensures .0
       ∙ idle-all (args .state) (args .image .now) inside whole (sym (c .before .before .before .is-lost .ensures) ∙ c .before .before .if3 .left) (c .before .if4 .left),
   c .scan-but .ensures .1,

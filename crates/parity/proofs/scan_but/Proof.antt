@@ -3,8 +3,10 @@
 use mathlib.Core.Path.{refl, sym, _∙_}
 use borrow.Author.Needs.{needs}
 use Rattle.terms.specs.Lists.{among}
+use Rattle.geometry.proofs.States.{state-bounds}
 use Rattle.parity.specs.Scan.{reply, scanOf}
-use Rattle.parity.proofs.Replies.{image-whole, image-not-whole, fitting, look-beyond, look-length, look-all}
+use Rattle.parity.proofs.Inside.{image-whole, image-not-whole, fitting}
+use Rattle.parity.proofs.Replies.{look-beyond, look-length, look-all}
 use Rattle.parity.proofs.scan_but.Statement.{statement}
 use Rattle.parity.proofs.scan_but.Tie as tie
 
@@ -28,14 +30,14 @@ returns-2 c = (
   let args = c .before .before .before .before .before .args in
       let inside = sym (c .before .before .before .beyond .ensures) ∙ c .before .before .if1 .left in
       look-length (args .state) (args .image .now) (among (args .skip)) inside
-      (image-not-whole (args .state) (args .image .now) inside (λ q. c .if2 .taken (q ∙ sym (c .before .image-size .ensures)))),
+      (image-not-whole (args .state) (args .image .now) (state-bounds (args .state) inside) (λ q. c .if2 .taken (q ∙ sym (c .before .image-size .ensures)))),
   refl,
 )
 
 look-requires : tie.Need-look-requires
 look-requires c κs =
     let args = c .before .before .before .before .before .args in
-    fitting (args .state) (args .image .now) (sym (c .before .before .before .beyond .ensures) ∙ c .before .before .if1 .left)
+    fitting (args .state) (args .image .now) (state-bounds (args .state) (sym (c .before .before .before .beyond .ensures) ∙ c .before .before .if1 .left))
     (c .if2 .left ∙ c .before .image-size .ensures)
 
 returns-3 : tie.Need-returns-3
@@ -45,7 +47,7 @@ returns-3 c = (
       let inside = sym (c .before .before .before .before .beyond .ensures) ∙ c .before .before .before .if1 .left in
       c .look .ensures .0
       ∙ look-all (args .state) (args .image .now) (among (args .skip)) inside
-      (image-whole (args .state) (args .image .now) inside (c .before .if2 .left ∙ c .before .before .image-size .ensures)),
+      (image-whole (args .state) (args .image .now) (state-bounds (args .state) inside) (c .before .if2 .left ∙ c .before .before .image-size .ensures)),
   c .look .ensures .1,
 )
 

@@ -57,7 +57,7 @@ fn main() {
     println!("| chosen | the library | plain Rust | library / plain |");
     println!("|---|---|---|---|");
     for (out, chosen, name) in [(NONE, NONE, "with none out"), (3, 3, "with the card that is out"), (3, NONE, "before the card was out")] {
-        let state = State { cards: CARDS, stripes: 1024, block: 16, records: 8, out, lost: 0 };
+        let state = State { records: 8, out, ..State::whole(CARDS, 1024, 16) };
         let table = table(&state, chosen);
         let (library, plain) =
             clock(|| graphs::sound(black_box(&state), black_box(&table)), || sound(black_box(&state), black_box(&table)));

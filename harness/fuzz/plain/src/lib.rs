@@ -42,7 +42,7 @@ pub extern "C" fn make_plain(ask: &Ask, side: &mut Side) -> u64 {
         1 => Plain.block_at(a, b, c, d),
         2 => Plain.scan(lent.state, lent.image),
         3 => {
-            let asked = State { cards: a, stripes: b, block: c, records: d, out: e, lost: 0 };
+            let asked = State { records: d, out: e, ..State::whole(a, b, c) };
             Plain.open(lent, &asked)
         }
         4 => Plain.admit(lent, a, b, c, payload),
@@ -50,6 +50,8 @@ pub extern "C" fn make_plain(ask: &Ask, side: &mut Side) -> u64 {
         6 => Plain.report(lent.state, a),
         7 => Plain.collect(lent, a, result),
         8 => Plain.check(lent.state, lent.table, lent.image),
+        9 => Plain.start(lent.state),
+        10 => Plain.rebuild(lent.state, lent.table, lent.image),
         call => panic!("there is no call {call}"),
     }
 }

@@ -64,6 +64,8 @@ fn open() {
             |ask| ask.side.table[0].phase = 77,
             |ask| ask.side.state.lost = 1,
             |ask| ask.side.state.cards = 9,
+            |ask| ask.side.state.fill = 0,
+            |ask| ask.side.state.fill = 5,
             // With a card out, parity is not looked at.
             |ask| {
                 change!(ask, Open { out = 2 });
@@ -94,6 +96,12 @@ fn report() {
         accepted,
         &[
             |ask| ask.side.state.out = 0,
+            // A card that is out is reported again only while it fills.
+            |ask| fill_at(ask, 2, 0),
+            |ask| fill_at(ask, 2, 4),
+            // And another one while a card fills.
+            |ask| fill_at(ask, 0, 0),
+            |ask| fill_at(ask, 0, 4),
             |ask| change!(ask, Report { card = 0 }),
             |ask| change!(ask, Report { card = 3 }),
             // It is lent the state alone.
@@ -101,6 +109,21 @@ fn report() {
             |ask| ask.side.image.clear(),
         ],
     );
+}
+
+/// To the end of a fill a card is out.
+fn filling_is_out() -> Vec<Fault> {
+    vec![
+        fault(12, "nothing is filled", |ask| fill_if_none(ask, 0)),
+        fault(12, "all but the last stripe is filled", |ask| fill_if_none(ask, 4)),
+    ]
+}
+
+/// Begins a fill at this place, where no card is out.
+fn fill_if_none(ask: &mut Ask, fill: u64) {
+    if ask.side.state.out == 255 && !ask.side.state.filling() {
+        fill_at(ask, 2, fill)
+    }
 }
 
 #[test]
@@ -115,6 +138,7 @@ fn scan_with_a_table() {
             ask.side.state.out = 2
         }
     }));
+    faults.extend(filling_is_out());
     faults.extend(wrong_parity());
     let accepted = ask(Call::Check);
     lowest_wins(accepted.clone(), &faults);
@@ -140,6 +164,7 @@ fn scan_of_an_idle_array() {
             ask.side.state.out = 2
         }
     }));
+    faults.extend(filling_is_out());
     faults.extend(wrong_parity());
     faults.push(fault(13, "stripe 1, which no table holds", |ask| spoil(&mut ask.side, 1, 0, 0)));
     let accepted = ask(Call::Scan);

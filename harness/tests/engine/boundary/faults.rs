@@ -3,6 +3,7 @@
 use crate::pair::{Call, Side};
 use harness::calls::{Record, State};
 use harness::plain::blocks::in_image;
+use harness::plain::NO_FILL;
 
 /// A call with all that it is lent.
 #[derive(Clone)]
@@ -23,12 +24,15 @@ pub fn fault(number: u64, what: &'static str, make: fn(&mut Ask)) -> Fault {
     Fault { number, what, make }
 }
 
+/// The numbers of what is lent.
+const STATE: State =
+    State { cards: 4, stripes: 5, block: 32, records: 4, out: 255, lost: 0, fill: NO_FILL };
+
 /// What is lent: N = 4, S = 5, B = 32, K = 4, no card out, all bytes zero. Record 0
 /// is an open write on stripe 1, record 1 a finished read of units 0 and 2, record 2 is free, record
 /// 3 is an open read on stripe 4.
 pub fn side() -> Side {
-    let state = State { cards: 4, stripes: 5, block: 32, records: 4, out: 255, lost: 0 };
-    let mut side = Side::for_state(state);
+    let mut side = Side::for_state(STATE);
     side.table[0] = Record {
         phase: 1,
         write: 1,
@@ -71,7 +75,20 @@ pub fn limits() -> Vec<Fault> {
         fault(1, "out = N", |ask| ask.side.state.out = 4),
         fault(1, "out = 254", |ask| ask.side.state.out = 254),
         fault(1, "out = 256", |ask| ask.side.state.out = 256),
+        fault(1, "fill = 0, none out", |ask| fill_at(ask, 255, 0)),
+        fault(1, "fill = S-1, none out", |ask| fill_at(ask, 255, 4)),
+        fault(1, "fill = S", |ask| fill_at(ask, 2, 5)),
+        fault(1, "fill = S, none out", |ask| fill_at(ask, 255, 5)),
+        fault(1, "fill = 65534", |ask| fill_at(ask, 2, 65_534)),
+        fault(1, "fill = 65536", |ask| fill_at(ask, 2, 65_536)),
+        fault(1, "fill = 2^64-1", |ask| fill_at(ask, 2, u64::MAX)),
     ]
+}
+
+/// Gives the state a card out and a fill place.
+pub fn fill_at(ask: &mut Ask, out: u64, fill: u64) {
+    ask.side.state.out = out;
+    ask.side.state.fill = fill;
 }
 
 pub fn image_length() -> Vec<Fault> {
@@ -111,7 +128,13 @@ pub fn unsound() -> Vec<Fault> {
             ask.side.table[0].graph = 4;
             ask.side.table[0].done = 0;
         }),
-        fault(3, "chosen with a card that is in", |ask| ask.side.table[3].chosen = 3),
+        fault(3, "open and chosen with a card that is in", |ask| ask.side.table[3].chosen = 3),
+        fault(3, "finished and chosen with card N", |ask| ask.side.table[1].chosen = 4),
+        fault(3, "finished and chosen with card 254", |ask| ask.side.table[1].chosen = 254),
+        fault(3, "finished and chosen with card 256", |ask| ask.side.table[1].chosen = 256),
+        fault(3, "finished and chosen with a card that asks for another graph", |ask| {
+            ask.side.table[1].chosen = 0
+        }),
         fault(3, "a step of no graph done", |ask| ask.side.table[0].done |= 1 << 9),
         fault(3, "a step of another unit done", |ask| ask.side.table[0].done |= 1 << 1),
         fault(3, "parity written before the exclusive or", |ask| ask.side.table[0].done |= 1 << 8),
@@ -142,8 +165,7 @@ pub fn wrong_parity() -> Vec<Fault> {
 }
 
 pub fn spoil(side: &mut Side, stripe: u64, position: u64, byte: usize) {
-    let state = State { cards: 4, stripes: 5, block: 32, records: 4, out: 255, lost: 0 };
-    let start = in_image(&state, stripe, position).start;
+    let start = in_image(&STATE, stripe, position).start;
     // The image may be short by now; a byte that is not there is wrong anyway.
     if let Some(byte) = side.image.get_mut(start + byte) {
         *byte ^= 0x80;

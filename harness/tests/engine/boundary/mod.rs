@@ -5,6 +5,7 @@
 
 mod array;
 mod faults;
+mod fill;
 mod requests;
 
 use crate::pair::Pair;

@@ -50,6 +50,12 @@ fn admit() {
             // The longest counts that a sound table has.
             |ask| ask.side.table[0].count = 8,
             |ask| ask.side.table[1].count = 9,
+            // The finished read may have been chosen with any card that leaves its graph.
+            |ask| ask.side.table[1].chosen = 1,
+            |ask| ask.side.table[1].chosen = 3,
+            // A card fills: the stripe is filled, or is to be.
+            |ask| fill_at(ask, 3, 0),
+            |ask| fill_at(ask, 3, 4),
             // Parity is not looked at.
             |ask| spoil(&mut ask.side, 0, 0, 0),
         ],
@@ -97,6 +103,8 @@ fn step() {
             // With 2n+2 counted and more than one step to go, a step is accepted and counted.
             |ask| ask.side.table[0].count = 8,
             |ask| ask.side.state.out = 0,
+            |ask| fill_at(ask, 0, 1),
+            |ask| fill_at(ask, 0, 4),
         ],
     );
 }
@@ -130,6 +138,7 @@ fn collect() {
         &[
             |ask| ask.result.push(1),
             |ask| ask.side.state.out = 1,
+            |ask| fill_at(ask, 1, 2),
             // It is not lent the image.
             |ask| ask.side.image.clear(),
             // A write needs no room.

@@ -16,7 +16,7 @@ pub fn some_state(random: &mut Random) -> State {
     let stripes = if random.chance(1, 20) { random.between(20, 40) } else { random.between(1, 10) };
     let records = random.between(1, 8);
     let out = if random.chance(1, 4) { random.below(cards) } else { 255 };
-    State { cards, stripes, block: 16 * sixteens, records, out, lost: 0 }
+    State { records, out, ..State::whole(cards, stripes, 16 * sixteens) }
 }
 
 /// Buffers for these numbers, filled with noise, but with right parity in every stripe.
@@ -29,9 +29,7 @@ pub fn some_side(random: &mut Random, state: State) -> Side {
         record.phase = random.below(4);
         record.count = random.number();
     }
-    if state.out < state.cards {
-        let lost = side.card_out();
-        random.fill(&mut side.image[lost]);
-    }
+    let missing = side.missing();
+    random.fill(&mut side.image[missing]);
     side
 }

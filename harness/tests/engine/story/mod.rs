@@ -1,11 +1,12 @@
 //! One random history of an array, from its opening on.
 //!
-//! The caller's knowledge is kept apart from both engines: a plain row, and for each request what
-//! was asked and how many steps were accepted. What the tested engine does is held to this
-//! knowledge and, call by call, to the plain engine.
+//! The caller's knowledge is kept apart from both engines: a plain row, the numbers of the state, and for
+//! each request what was asked and how many steps were accepted. What the tested engine does is held to
+//! this knowledge and, call by call, to the plain engine.
 
 mod arrays;
 mod cards;
+mod fills;
 mod requests;
 mod senseless;
 
@@ -32,7 +33,15 @@ pub struct Story<'a> {
     pair: Pair<'a>,
     random: Random,
     row: Row,
+    /// The state as the caller's own book has it.
+    known: State,
     requests: Vec<Option<Request>>,
+    /// Of a hundred turns, those that go to a fresh card.
+    haste: u64,
+    /// The cards that failed one after another, the one out at the opening among them.
+    failures: u64,
+    /// The card that was filled to the end last.
+    filled: Option<u64>,
     pub tally: Tally,
 }
 
@@ -44,16 +53,26 @@ impl<'a> Story<'a> {
         let mut side = some_side(&mut random, state);
         let row = Row::of(&state, &side.image);
         // What the caller's state holds before opening does not matter.
-        side.state = State { cards: random.number(), lost: random.number(), ..State::default() };
-        let requests = (0..state.records).map(|_| None).collect();
+        side.state = State { cards: random.number(), fill: random.number(), ..State::default() };
+        let haste = random.pick(&[0, 3, 12, 40]);
         let mut pair = Pair::new(calls, side);
         pair.alone = alone;
-        let mut story = Story { pair, random, row, requests, tally: Tally::default() };
+        let mut story = Story {
+            pair,
+            random,
+            row,
+            known: state,
+            requests: (0..state.records).map(|_| None).collect(),
+            haste,
+            failures: (state.out != 255) as u64,
+            filled: None,
+            tally: Tally::default(),
+        };
         story.open_wrongly(state)?;
         let State { cards, stripes, block, records, out, .. } = state;
         let opened = story.call(Call::Open { cards, stripes, block, records, out })?;
         story.expect(opened.number == 0, "the array opens")?;
-        story.expect(story.pair.theirs.state == state, "in the state that was asked for")?;
+        story.state_is_known()?;
         story.pair.decays_apart = story.random.chance(1, 2);
         Ok(story)
     }
@@ -82,7 +101,16 @@ impl<'a> Story<'a> {
     }
 
     fn state(&self) -> State {
-        self.pair.theirs.state
+        self.known
+    }
+
+    /// The engine's state is the one that the caller's book has.
+    fn state_is_known(&self) -> Result<(), String> {
+        let same = self.pair.theirs.state == self.known;
+        self.expect(
+            same,
+            &format!("the state is as foreseen, and not {:?}", self.pair.theirs.state),
+        )
     }
 
     fn record(&self, record: u64) -> Record {
@@ -114,7 +142,9 @@ impl<'a> Story<'a> {
 
     /// One thing that a caller may do, a senseless one now and then.
     pub fn turn(&mut self) -> Result<(), String> {
+        let hasty = self.random.below(100) < self.haste;
         match self.random.below(100) {
+            _ if hasty => self.see_to_a_card()?,
             0..=17 => self.admit()?,
             18..=69 => self.step()?,
             70..=75 => self.senseless_step()?,
@@ -125,10 +155,11 @@ impl<'a> Story<'a> {
             98 => self.senseless_admit()?,
             _ => self.report()?,
         }
+        self.state_is_known()?;
         self.idle_stripes_agree()
     }
 
-    /// Every stripe that no open request holds says what the row says.
+    /// Every stripe that no open request holds says what the row says: on every card, where none is out in it.
     fn idle_stripes_agree(&self) -> Result<(), String> {
         if self.state().lost != 0 {
             return Ok(());
@@ -156,7 +187,8 @@ impl<'a> Story<'a> {
         open.any(|request| request.stripe == stripe)
     }
 
-    /// Lets everything that is open come to its end, collects it, and reads the whole row back.
+    /// Lets everything that is open come to its end, collects it, fills a card that is out now and then,
+    /// and reads the whole row back.
     pub fn end(&mut self) -> Result<(), String> {
         if self.state().lost != 0 {
             return Ok(());
@@ -169,6 +201,9 @@ impl<'a> Story<'a> {
             if self.requests[record as usize].is_some() {
                 self.collect_at(record)?;
             }
+        }
+        if self.random.chance(1, 2) {
+            self.fill_up()?;
         }
         for stripe in 0..self.state().stripes {
             let mask = (1 << self.state().units()) - 1;

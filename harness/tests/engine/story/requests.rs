@@ -33,7 +33,13 @@ impl Story<'_> {
         self.expect(answer.number == expected, "admit answers what the caller foresees")?;
         if let (0, Some(free)) = (answer.number, free) {
             self.expect(answer.first == free as u64, "the lowest free record is taken")?;
-            self.tally.note("graph", self.record(answer.first).graph);
+            let graph = self.record(answer.first).graph;
+            self.tally.note("graph", graph);
+            if state.filling() {
+                let place =
+                    if stripe < state.fill { "graph, filled" } else { "graph, to be filled" };
+                self.tally.note(place, graph);
+            }
             self.requests[free] =
                 Some(Request { write, stripe, mask, payload, steps: 0, outcome: None });
         }

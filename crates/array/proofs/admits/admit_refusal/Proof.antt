@@ -10,7 +10,7 @@ use Rattle.terms.specs.Reply.{firstRow}
 use Rattle.geometry.specs.Limits.{beyondState}
 use Rattle.geometry.specs.Store.{imageWrong, workWrong}
 use Rattle.geometry.proofs.Flags.{fails, holds}
-use Rattle.geometry.proofs.Lengths.{state-bounds}
+use Rattle.geometry.proofs.States.{state-bounds}
 use Rattle.record.specs.Life.{unitsOf}
 use Rattle.record.specs.Sound.{legalMask}
 use Rattle.record.specs.Survey.{heldIn}

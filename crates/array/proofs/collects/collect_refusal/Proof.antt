@@ -8,7 +8,7 @@ use denote.Ref.{now}
 use Rattle.terms.specs.Reply.{firstRow}
 use Rattle.geometry.specs.Limits.{beyondState}
 use Rattle.geometry.specs.Store.{workWrong}
-use Rattle.geometry.proofs.Lengths.{state-bounds}
+use Rattle.geometry.proofs.States.{state-bounds}
 use Rattle.record.specs.Life.{isOpen}
 use Rattle.record.specs.Survey.{heldIn, soundWith}
 use Rattle.array.specs.Lent.{tableWrong, lentRows}

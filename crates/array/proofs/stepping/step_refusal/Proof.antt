@@ -9,7 +9,7 @@ use Rattle.terms.specs.Reply.{firstRow}
 use Rattle.geometry.specs.Limits.{beyondState}
 use Rattle.geometry.specs.Store.{imageWrong, workWrong}
 use Rattle.geometry.proofs.Flags.{fails, holds}
-use Rattle.geometry.proofs.Lengths.{state-bounds}
+use Rattle.geometry.proofs.States.{state-bounds}
 use Rattle.record.specs.Life.{isOpen}
 use Rattle.record.specs.Survey.{heldIn, soundWith}
 use Rattle.record.specs.declared.Look.{Look}

@@ -23,15 +23,19 @@ at-requires-5 c κs = search needs
 at-requires-6 : tie.Need-at-requires-6
 at-requires-6 c κs = search needs
 
+at-requires-7 : tie.Need-at-requires-7
+at-requires-7 c κs = search needs
+
 returns : tie.Need-returns
 unfolding stateFrom
 returns c = λ i. record {
-  cards = c .before .before .before .before .before .at .ensures i;
-  stripes = c .before .before .before .before .at2 .ensures i;
-  block = c .before .before .before .at3 .ensures i;
-  records = c .before .before .at4 .ensures i;
-  out = c .before .at5 .ensures i;
-  lost = c .at6 .ensures i;
+  cards = c .before .before .before .before .before .before .at .ensures i;
+  stripes = c .before .before .before .before .before .at2 .ensures i;
+  block = c .before .before .before .before .at3 .ensures i;
+  records = c .before .before .before .at4 .ensures i;
+  out = c .before .before .at5 .ensures i;
+  lost = c .before .at6 .ensures i;
+  fill = c .at7 .ensures i;
 }
 
 pub state-spec : {M : Type 1} → statement M
@@ -44,4 +48,5 @@ state-spec =
     at-requires-4
     at-requires-5
     at-requires-6
+    at-requires-7
     returns)

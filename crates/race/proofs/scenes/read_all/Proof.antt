@@ -1,4 +1,4 @@
--- `race::scenes::read_all` is safe and ends: the measure is the number of swimmers that are left. No more touches came back than were read.
+-- `race::scenes::read_all` is safe and ends: the measure is the number of touches that are left. No more touches came back than were read.
 -- Assumes nothing.
 use Prim.Native.Nat.{_-_, _≤_}
 use mathlib.Core.Logic.{⊎-elim}
@@ -8,10 +8,10 @@ use Rattle.race.proofs.scenes.read_all.Statement.{statement}
 use Rattle.race.proofs.scenes.read_all.Tie as tie
 
 abbrev Inv-loop : tie.InvT-loop
-Inv-loop last now₀ same₀ block₀ now same block = same ≤ block
+Inv-loop all touches now₀ same₀ block₀ now same block = same ≤ block
 
 abbrev μ-loop : tie.MeasureT-loop
-μ-loop last now₀ same₀ block₀ now same block = 8 - block
+μ-loop all touches now₀ same₀ block₀ now same block = all - block
 
 loop-holds : tie.Need-loop-holds Inv-loop μ-loop
 loop-holds c = search needs

@@ -1,6 +1,6 @@
 -- `is_legal` meets its contract: five tests, one after the other.
 -- Assumes nothing.
-use Prim.Native.Nat.{ℕ}
+use Prim.Native.Nat.{ℕ, _-_}
 use mathlib.Core.Bool.{true, _||_}
 use mathlib.Core.Logic.{⊎-elim}
 use mathlib.Core.Path.{_≡_, sym, _∙_, ap}
@@ -10,7 +10,7 @@ use borrow.Author.Tests.{eqb-false, eq-eqb, ne-eqb, lt-ltb, le-ltb, le-leb, lt-l
 use lib.Dec.{ltb, eqb}
 use Rattle.terms.proofs.Rows.{truth, within-intro}
 use Rattle.terms.specs.Sets.{within}
-use Rattle.record.specs.Life.{unitsOf, isOpen, isFinished}
+use Rattle.record.specs.Life.{isOpen, isFinished}
 use Rattle.record.specs.Sound.{legalMask, legalRecord}
 use Rattle.record.proofs.Record.is_legal.Statement.{statement}
 use Rattle.record.proofs.Record.is_legal.Tie as tie
@@ -27,22 +27,22 @@ kind : (c : tie.Else3) → within 0 1 (c .before .before .before .before .before
 kind c = within-intro 0 1 (c .before .before .before .before .before .before .args .self .write) (search needs) (c .if3 .left)
 
 low : (c : tie.Else4)
-    → let a = c .before .before .before .before .before .before .before .before .before .args in
-    ltb (a .self .stripe) (a .state .stripes) ≡ true
+    → let a = c .before .before .before .before .before .before .before .before .args in
+    ltb (a .self .stripe) (a .stripes) ≡ true
 low c =
-    let a = c .before .before .before .before .before .before .before .before .before .args in
-    lt-ltb (a .self .stripe) (a .state .stripes) (c .if4 .left)
+    let a = c .before .before .before .before .before .before .before .before .args in
+    lt-ltb (a .self .stripe) (a .stripes) (c .if4 .left)
 
 mask-test : (c : tie.After-legal-mask)
-    → let a = c .before .before .before .before .before .before .before .before .before .before .before .args in
-    legalMask (unitsOf (a .state)) (a .self .mask) ≡ c .legal-mask .result
+    → let a = c .before .before .before .before .before .before .before .before .before .before .args in
+    legalMask ((a .cards - 1)) (a .self .mask) ≡ c .legal-mask .result
 mask-test c =
-    let a = c .before .before .before .before .before .before .before .before .before .before .before .args in
-    sym (c .legal-mask .ensures ∙ ap (λ (n : ℕ). legalMask n (a .self .mask)) (c .before .units .ensures))
+    let a = c .before .before .before .before .before .before .before .before .before .before .args in
+    sym (c .legal-mask .ensures ∙ ap (λ (n : ℕ). legalMask n (a .self .mask)) (c .before .units-of .ensures))
 
 right-mask : (c : tie.Else5)
-    → let a = c .before .before .before .before .before .before .before .before .before .before .before .before .args in
-    legalMask (unitsOf (a .state)) (a .self .mask) ≡ true
+    → let a = c .before .before .before .before .before .before .before .before .before .before .before .args in
+    legalMask ((a .cards - 1)) (a .self .mask) ≡ true
 right-mask c = mask-test (c .before) ∙ not-false (c .before .legal-mask .result) (c .if5 .left)
 
 returns : tie.Need-returns
@@ -65,12 +65,12 @@ returns-3 c =
 returns-4 : tie.Need-returns-4
 unfolding legalRecord
 returns-4 c =
-    let e = c .before .before .before in
+    let e = c .before .before in
     let a = e .before .before .before .before .before .before .args in
-    rw (busy (e .before .before), kind e, le-ltb (a .self .stripe) (a .state .stripes) (c .if4 .taken))
+    rw (busy (e .before .before), kind e, le-ltb (a .self .stripe) (a .stripes) (c .if4 .taken))
 
-units-requires : tie.Need-units-requires
-units-requires c κs = search needs
+units-of-requires : tie.Need-units-of-requires
+units-of-requires c κs = search needs
 
 legal-mask-requires : tie.Need-legal-mask-requires
 legal-mask-requires c κs = search needs
@@ -79,22 +79,22 @@ returns-5 : tie.Need-returns-5
 unfolding legalRecord
 returns-5 c =
     let e = c .before .before .before in
-    rw (busy (e .before .before .before .before .before), kind (e .before .before .before), low e, mask-test (c .before) ∙ not-true (c .before .legal-mask .result) (c .if5 .taken))
+    rw (busy (e .before .before .before .before), kind (e .before .before), low e, mask-test (c .before) ∙ not-true (c .before .legal-mask .result) (c .if5 .taken))
 
 returns-6 : tie.Need-returns-6
 unfolding legalRecord within
 returns-6 c =
     let e = c .before .before in
     let f = e .before .before .before in
-    rw (busy (f .before .before .before .before .before), kind (f .before .before .before), low f, right-mask e, c .if6 .taken)
+    rw (busy (f .before .before .before .before), kind (f .before .before), low f, right-mask e, c .if6 .taken)
 
 returns-7 : tie.Need-returns-7
 unfolding legalRecord within
 returns-7 c =
     let e = c .before .before .before in
     let f = e .before .before .before in
-    let r = c .before .before .before .before .before .before .before .before .before .before .before .before .before .before .before .args .self in
-    rw (busy (f .before .before .before .before .before), kind (f .before .before .before), low f, right-mask e, le-leb 1 (r .graph) (omega (arith, c .before .if6 .left)))
+    let r = c .before .before .before .before .before .before .before .before .before .before .before .before .before .before .args .self in
+    rw (busy (f .before .before .before .before), kind (f .before .before), low f, right-mask e, le-leb 1 (r .graph) (omega (arith, c .before .if6 .left)))
 
 pub is-legal-spec : {M : Type 1} → statement M
 is-legal-spec =
@@ -104,7 +104,7 @@ is-legal-spec =
     returns-2
     returns-3
     returns-4
-    units-requires
+    units-of-requires
     legal-mask-requires
     returns-5
     returns-6

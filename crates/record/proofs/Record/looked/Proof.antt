@@ -1,7 +1,7 @@
 -- `looked` meets its contract: the clauses of the definition, in their order.
 -- Assumes nothing.
 use Prim.Native.Nat.{ℕ, _+_, _*_}
-use mathlib.Core.Bool.{Bool, true, cond, not, _&&_}
+use mathlib.Core.Bool.{Bool, true, false, cond, not, _&&_}
 use mathlib.Core.Path.{_≡_, refl, sym, _∙_, ap, ap₂}
 use native.Mathlib.Omega.{arith}
 use borrow.Author.Needs.{needs}
@@ -16,9 +16,11 @@ use Rattle.graph.specs.Choice.{choose}
 use Rattle.graph.specs.Order.{complete, closed}
 use Rattle.graph.specs.Steps.{reads}
 use Rattle.graph.specs.declared.order.Judged.{Judged}
+use Rattle.geometry.specs.Placement.{filled, outIn}
+use Rattle.geometry.specs.declared.State.{State}
 use Rattle.record.specs.Asked.{fewIn, soundRecordIn}
 use Rattle.record.specs.Life.{isOpen, unitsOf, chosenAt}
-use Rattle.record.specs.Look.{found}
+use Rattle.record.specs.Look.{seenAs, found}
 use Rattle.record.specs.Sound.{legalRecord, legalChosen, rightGraph, rightSteps, lacksNone, rightCount, soundRecord}
 use Rattle.record.proofs.Clauses.{count-going}
 use Rattle.record.proofs.Same.{same-look}
@@ -41,18 +43,33 @@ from4 c = from3 (c .before .before .before .before)
 abbrev from5 : tie.Else5 → tie.Start
 from5 c = from4 (c .before .before .before)
 
--- what the tests that are passed say of the record
-few-at : (c : tie.Else1) → fewIn (from1 c .args .state) ≡ true
-few-at c = few (unitsOf (from1 c .args .state)) (omega (arith, c .before .units .ensures, c .if1 .left))
+-- the state that its numbers stand for
+abbrev as-seen : tie.Start → State
+as-seen s = seenAs (s .args .cards) (s .args .stripes) (s .args .now)
 
-legal : (c : tie.Else2) → legalRecord (from2 c .args .state) (from2 c .args .self) ≡ true
+-- what the tests that are passed say of the record
+few-at : (c : tie.Else1) → fewIn (as-seen (from1 c)) ≡ true
+few-at c = few (unitsOf (as-seen (from1 c))) (omega (arith, c .before .units-of .ensures, c .if1 .left))
+
+legal : (c : tie.Else2) → legalRecord (as-seen (from2 c)) (from2 c .args .self) ≡ true
+unfolding legalRecord
 legal c = holds (c .before .is-legal .ensures) (c .if2 .left)
 
-known : (c : tie.Else3) → legalChosen (from3 c .args .state) (from3 c .args .self) ≡ true
+-- a test that is not passed says it too
+not-legal : (c : tie.Then2) → legalRecord (as-seen (from1 (c .before .before))) (from1 (c .before .before) .args .self) ≡ false
+unfolding legalRecord
+not-legal c = fails (c .before .is-legal .ensures) (c .if2 .taken)
+
+not-known : (c : tie.Then3) → legalChosen (as-seen (from2 (c .before .before))) (from2 (c .before .before) .args .self) ≡ false
+unfolding legalChosen outIn filled
+not-known c = fails (c .before .legal-chosen .ensures) (c .if3 .taken)
+
+known : (c : tie.Else3) → legalChosen (as-seen (from3 c)) (from3 c .args .self) ≡ true
+unfolding legalChosen outIn filled
 known c = holds (c .before .legal-chosen .ensures) (c .if3 .left)
 
 graph-test : (c : tie.After-choose)
-    → let a = from3 (c .before .before) .args in rightGraph (a .state) (a .self) ≡ eqb (a .self .graph) (c .choose .result)
+    → let s = from3 (c .before .before) in rightGraph (as-seen s) (s .args .self) ≡ eqb (s .args .self .graph) (c .choose .result)
 unfolding rightGraph
 graph-test c =
     let e = c .before .before in
@@ -60,9 +77,9 @@ graph-test c =
     ap (eqb (s .args .self .graph))
     (sym
     (c .choose .ensures
-    ∙ ap₂ (λ (n x : ℕ). choose n (eqb (s .args .self .write) 1) (s .args .self .mask) x) (e .before .before .before .before .before .units .ensures) (s .pre .1)))
+    ∙ ap₂ (λ (n x : ℕ). choose n (eqb (s .args .self .write) 1) (s .args .self .mask) x) (e .before .before .before .before .before .units-of .ensures) (s .pre .1)))
 
-right-graph : (c : tie.Else4) → rightGraph (from4 c .args .state) (from4 c .args .self) ≡ true
+right-graph : (c : tie.Else4) → rightGraph (as-seen (from4 c)) (from4 c .args .self) ≡ true
 right-graph c =
     let k = c .before .before in
     graph-test k ∙ eq-eqb (from4 c .args .self .graph) (k .choose .result) (c .if4 .left)
@@ -70,8 +87,8 @@ right-graph c =
 -- the judgement of the done steps
 judgement : (c : tie.After-judge)
     → let a = from4 (c .before) .args in
-    let n = unitsOf (a .state) in
-    let x = chosenAt (a .state) (a .self) in
+    let n = unitsOf (as-seen (from4 (c .before))) in
+    let x = chosenAt (as-seen (from4 (c .before))) (a .self) in
     _≡_ {A = Judged} (c .judge .result)
     (record {
       right = closed n (a .self .graph) (a .self .mask) x (a .self .done);
@@ -85,22 +102,22 @@ judgement c =
     let a = s .args in
     let one = e .before .before .before .before in
     c .judge .ensures
-    ∙ ap₂ (λ (n x : ℕ). judged n (a .self .graph) (a .self .mask) x (a .self .done)) (one .before .units .ensures) (s .pre .1)
-    ∙ judged-few (unitsOf (a .state)) (a .self .graph) (a .self .mask) (chosenAt (a .state) (a .self)) (a .self .done) (few-at one)
+    ∙ ap₂ (λ (n x : ℕ). judged n (a .self .graph) (a .self .mask) x (a .self .done)) (one .before .units-of .ensures) (s .pre .1)
+    ∙ judged-few (unitsOf (as-seen s)) (a .self .graph) (a .self .mask) (chosenAt (as-seen s) (a .self)) (a .self .done) (few-at one)
 
-steps-test : (c : tie.After-judge) → let a = from4 (c .before) .args in c .judge .result .right ≡ rightSteps (a .state) (a .self)
+steps-test : (c : tie.After-judge) → let s = from4 (c .before) in c .judge .result .right ≡ rightSteps (as-seen s) (s .args .self)
 unfolding rightSteps
 steps-test c = ap (λ (j : Judged). j .right) (judgement c)
 
-whole-test : (c : tie.After-judge) → let a = from4 (c .before) .args in c .judge .result .whole ≡ lacksNone (a .state) (a .self)
+whole-test : (c : tie.After-judge) → let s = from4 (c .before) in c .judge .result .whole ≡ lacksNone (as-seen s) (s .args .self)
 unfolding lacksNone
 whole-test c = ap (λ (j : Judged). j .whole) (judgement c)
 
-right-steps : (c : tie.Else5) → rightSteps (from5 c .args .state) (from5 c .args .self) ≡ true
+right-steps : (c : tie.Else5) → rightSteps (as-seen (from5 c)) (from5 c .args .self) ≡ true
 right-steps c = holds (steps-test (c .before .before)) (c .if5 .left)
 
 count-test : (c : tie.After-right-count)
-    → let a = from5 (c .before .before) .args in c .right-count .result ≡ rightCount (a .state) (a .self)
+    → let s = from5 (c .before .before) in c .right-count .result ≡ rightCount (as-seen s) (s .args .self)
 count-test c =
     let e = c .before .before in
     let a = from5 e .args in
@@ -108,11 +125,11 @@ count-test c =
     let two = three .before .before in
     c .right-count .ensures
     ∙ ap₂ (λ (n : ℕ) (w : Bool). cond (isOpen (a .self)) (not w && leb (a .self .count) (2 * n + 2)) (w && leb (a .self .count) (2 * n + 3)))
-    (two .before .before .before .units .ensures) (whole-test (e .before .before))
-    ∙ sym (count-going (a .state) (a .self) (legal two))
+    (two .before .before .before .units-of .ensures) (whole-test (e .before .before))
+    ∙ sym (count-going (as-seen (from5 e)) (a .self) (legal two))
 
-units-requires : tie.Need-units-requires
-units-requires c κs = search needs
+units-of-requires : tie.Need-units-of-requires
+units-of-requires c κs = search needs
 
 nothing-requires : tie.Need-nothing-requires
 nothing-requires c κs = search needs
@@ -121,7 +138,7 @@ returns : tie.Need-returns
 unfolding soundRecordIn
 returns c =
     let t = c .before in
-    rw (many (unitsOf (t .before .before .args .state)) (omega (arith, t .before .units .ensures, t .if1 .taken))) (c .nothing .ensures)
+    rw (many (unitsOf (as-seen (t .before .before))) (omega (arith, t .before .units-of .ensures, t .if1 .taken))) (c .nothing .ensures)
 
 is-legal-requires : tie.Need-is-legal-requires
 is-legal-requires c κs = search needs
@@ -134,7 +151,7 @@ unfolding soundRecordIn soundRecord
 returns-2 c =
     let t = c .before in
     let e = t .before .before in
-    rw (few-at e, from1 e .pre .0, fails (t .before .is-legal .ensures) (t .if2 .taken)) (c .nothing2 .ensures)
+    rw (few-at e, from1 e .pre .0, not-legal t) (c .nothing2 .ensures)
 
 legal-chosen-requires : tie.Need-legal-chosen-requires
 legal-chosen-requires c κs = search needs
@@ -147,7 +164,7 @@ unfolding soundRecordIn soundRecord
 returns-3 c =
     let t = c .before in
     let e = t .before .before in
-    rw (few-at (e .before .before), from2 e .pre .0, legal e, fails (t .before .legal-chosen .ensures) (t .if3 .taken)) (c .nothing3 .ensures)
+    rw (few-at (e .before .before), from2 e .pre .0, legal e, not-known t) (c .nothing3 .ensures)
 
 choose-requires : tie.Need-choose-requires
 choose-requires c κs = search needs
@@ -202,7 +219,7 @@ nothing-requires-6 : tie.Need-nothing-requires-6
 nothing-requires-6 c κs = search needs
 
 -- all clauses but the last hold
-all-but-count : (c : tie.Else5) → let a = from5 c .args in soundRecordIn (a .state) (a .self) ≡ rightCount (a .state) (a .self)
+all-but-count : (c : tie.Else5) → let s = from5 c in soundRecordIn (as-seen s) (s .args .self) ≡ rightCount (as-seen s) (s .args .self)
 unfolding soundRecordIn soundRecord
 all-but-count c =
     let four = c .before .before .before in
@@ -224,7 +241,7 @@ returns-7 c =
     let j = e .before .before in
     let s = from5 e in
     rw (all-but-count e, holds (count-test k) (c .if6 .left))
-    (same-look _ (found (s .args .state) (s .args .self) (s .args .out)) refl (s .pre .1) refl
+    (same-look _ (found (as-seen s) (s .args .self) (s .args .out)) refl (s .pre .1) refl
     (ap (λ (j : Judged). j .steps) (judgement j))
     (ap (λ (j : Judged). j .reads) (judgement j)))
 
@@ -232,7 +249,7 @@ pub looked-spec : {M : Type 1} → statement M
 looked-spec =
     tie.close
     (tie.spec
-    units-requires
+    units-of-requires
     nothing-requires
     returns
     is-legal-requires

@@ -6,20 +6,17 @@ use Rattle.geometry.specs.Placement.{missingAt}
 use Rattle.record.proofs.Record.missing_now.Statement.{statement}
 use Rattle.record.proofs.Record.missing_now.Tie as tie
 
-out-in-requires : tie.Need-out-in-requires
-out-in-requires c κs = search needs
-
 returns : tie.Need-returns
 returns c =
-    let s = c .before .before .before in
+    let s = c .before .before in
     let a = s .args in
-    s .pre ∙ ap (missingAt (a .state .cards) (a .self .stripe)) (c .if1 .taken ∙ c .before .before .out-in .ensures)
+    s .pre ∙ ap (missingAt (a .cards) (a .self .stripe)) (c .if1 .taken)
 
-missing-in-requires : tie.Need-missing-in-requires
-missing-in-requires c κs = search needs
+missing-at-requires : tie.Need-missing-at-requires
+missing-at-requires c κs = search needs
 
 returns-2 : tie.Need-returns-2
 returns-2 c = search needs
 
 pub missing-now-spec : {M : Type 1} → statement M
-missing-now-spec = tie.close (tie.spec out-in-requires returns missing-in-requires returns-2)
+missing-now-spec = tie.close (tie.spec returns missing-at-requires returns-2)

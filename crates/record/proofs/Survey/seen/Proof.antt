@@ -4,10 +4,10 @@ use mathlib.Core.Bool.{Bool, true, false, not, _&&_}
 use mathlib.Core.Path.{_≡_, refl, ap, _∙_}
 use borrow.Author.Needs.{needs}
 use borrow.Author.Tests.{lt-ltb, le-ltb, eq-eqb, ne-eqb}
-use Rattle.record.specs.Asked.{fewIn, soundRecordIn}
+use Rattle.record.specs.Asked.{soundRecordIn}
 use Rattle.record.specs.Life.{isFree, isOpen}
-use Rattle.record.specs.Sound.{allZero, soundRecord}
-use Rattle.record.specs.Seen.{heldBefore, stillSound, stillFree, seen}
+use Rattle.record.specs.Sound.{allZero}
+use Rattle.record.specs.Seen.{heldBefore, fine, stillSound, stillFree, seen}
 use Rattle.record.proofs.Clauses.{open-not-free}
 use Rattle.record.proofs.Same.{same-survey}
 use Rattle.record.proofs.Survey.seen.Statement.{statement}
@@ -32,7 +32,7 @@ for-other false b c d o = refl
 
 -- a free record
 returns-2 : tie.Need-returns-2
-unfolding seen stillSound stillFree soundRecordIn soundRecord
+unfolding seen stillSound stillFree fine
 returns-2 c =
     let t = c .before in
     let a = t .before .before .before .before .args in
@@ -41,7 +41,7 @@ returns-2 c =
     rw (lt-ltb (a .i) 8 (search needs))
     (c .seen-free .ensures
     ∙ same-survey _ _ refl
-    (rw z (for-other (a .self .sound) (fewIn (a .state) && allZero (a .r)) (isOpen (a .r)) (heldBefore (a .self) (a .r .stripe) (a .i)) o))
+    (rw z (for-other (a .self .sound) (allZero (a .r)) (isOpen (a .r)) (heldBefore (a .self) (a .r .stripe) (a .i)) o))
     (rw o)
     (rw z))
 
@@ -53,7 +53,7 @@ seen-open-requires c κs = search needs
 
 -- an open one
 returns-3 : tie.Need-returns-3
-unfolding seen stillSound stillFree
+unfolding seen stillSound stillFree fine
 returns-3 c =
     let t = c .before in
     let s = t .before .before in
@@ -64,13 +64,13 @@ returns-3 c =
     (c .seen-open .ensures
     ∙ same-survey _ _ refl
     (ap (λ (b : Bool). b && not (heldBefore (a .self) (a .r .stripe) (a .i))) (s .so-far .ensures)
-    ∙ for-open (a .self .sound) (soundRecordIn (a .state) (a .r)) (isOpen (a .r)) (heldBefore (a .self) (a .r .stripe) (a .i)) o)
+    ∙ rw f (for-open (a .self .sound) (soundRecordIn (a .state) (a .r)) (isOpen (a .r)) (heldBefore (a .self) (a .r .stripe) (a .i)) o))
     (rw o)
     (rw f))
 
 -- one that is neither
 returns-4 : tie.Need-returns-4
-unfolding seen stillSound stillFree
+unfolding seen stillSound stillFree fine
 returns-4 c =
     let s = c .before .before in
     let e = s .before .before in
@@ -80,7 +80,7 @@ returns-4 c =
     rw (lt-ltb (a .i) 8 (search needs))
     (same-survey _ _ refl
     (s .so-far .ensures
-    ∙ for-other (a .self .sound) (soundRecordIn (a .state) (a .r)) (isOpen (a .r)) (heldBefore (a .self) (a .r .stripe) (a .i)) o)
+    ∙ rw f (for-other (a .self .sound) (soundRecordIn (a .state) (a .r)) (isOpen (a .r)) (heldBefore (a .self) (a .r .stripe) (a .i)) o))
     (rw o)
     (rw f))
 

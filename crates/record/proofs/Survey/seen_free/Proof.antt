@@ -7,8 +7,8 @@ use Rattle.record.proofs.Same.{same-survey}
 use Rattle.record.proofs.Survey.seen_free.Statement.{statement}
 use Rattle.record.proofs.Survey.seen_free.Tie as tie
 
-free-sound-requires : tie.Need-free-sound-requires
-free-sound-requires c κs = search needs
+all-zero-requires : tie.Need-all-zero-requires
+all-zero-requires c κs = search needs
 
 both-requires : tie.Need-both-requires
 both-requires c κs = search needs
@@ -22,9 +22,9 @@ returns c =
     let b = f .before in
     let a = b .before .before .args in
     same-survey _ _ refl
-    (b .both .ensures ∙ ap (λ (t : Bool). a .self .sound && t) (b .before .free-sound .ensures))
+    (b .both .ensures ∙ ap (λ (t : Bool). a .self .sound && t) (b .before .all-zero .ensures))
     refl
     (f .first-free .ensures)
 
 pub seen-free-spec : {M : Type 1} → statement M
-seen-free-spec = tie.close (tie.spec free-sound-requires both-requires first-free-requires returns)
+seen-free-spec = tie.close (tie.spec all-zero-requires both-requires first-free-requires returns)

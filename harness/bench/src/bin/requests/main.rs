@@ -62,7 +62,7 @@ impl Bench {
     fn new(task: &Task) -> Bench {
         let Task { cards, block, .. } = *task;
         let out = task.out.map_or(255, |position| card_at(cards, 0, position));
-        let state = State { cards, stripes: STRIPES, block, records: RECORDS, out, lost: 0 };
+        let state = State { records: RECORDS, out, ..State::whole(cards, STRIPES, block) };
         let mut random = Random::new(cards);
         let mut image = random.bytes(state.image_length() as usize);
         make_right(&state, &mut image);

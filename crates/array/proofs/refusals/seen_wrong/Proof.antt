@@ -1,10 +1,10 @@
--- `array::scans::seen_wrong` meets its contract: the image first, and then the table.
+-- `array::refusals::seen_wrong` meets its contract: the image first, and then the table.
 -- Assumes nothing.
 use mathlib.Core.Path.{sym, _∙_}
 use Rattle.array.specs.Lent.{tableWrong}
 use borrow.Author.Needs.{needs}
-use Rattle.array.proofs.scans.seen_wrong.Statement.{statement}
-use Rattle.array.proofs.scans.seen_wrong.Tie as tie
+use Rattle.array.proofs.refusals.seen_wrong.Statement.{statement}
+use Rattle.array.proofs.refusals.seen_wrong.Tie as tie
 
 image-wrong-requires : tie.Need-image-wrong-requires
 image-wrong-requires c κs = search needs
