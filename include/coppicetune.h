@@ -9,7 +9,7 @@
 #include <stdint.h>
 
 /* Grows with every change to a struct, to a function's arguments or to what an answer means. */
-#define COPPICETUNE_VERSION 2
+#define COPPICETUNE_VERSION 3
 
 #ifdef __cplusplus
 extern "C" {
@@ -20,6 +20,9 @@ enum { COPPICETUNE_NONE = 255 };
 
 /* In place of a stripe to be filled next: no fill is under way. */
 enum { COPPICETUNE_NO_FILL = 65535 };
+
+/* The layout of an array, by its number: RAID level 4, parity on the last card and unit i on card i; or RAID level 5, parity rotated. */
+enum { COPPICETUNE_LEVEL_4 = 4, COPPICETUNE_LEVEL_5 = 5 };
 
 /* The number of an answer: accepted, or why the call is refused. */
 enum {
@@ -55,6 +58,7 @@ struct coppicetune_state {
     uint64_t stripes; /* S, 1 to 1,024 */
     uint64_t block;   /* B, the bytes in a block: 16 to 512, a multiple of 16 */
     uint64_t records; /* K, the request records: 1 to 8 */
+    uint64_t layout;  /* COPPICETUNE_LEVEL_4 or COPPICETUNE_LEVEL_5 */
     uint64_t out;     /* the card that is out, or COPPICETUNE_NONE */
     uint64_t lost;    /* 0: the array is not lost */
     uint64_t fill;    /* the stripe to be filled next, below S and only where a card is out; or COPPICETUNE_NO_FILL */
@@ -74,29 +78,29 @@ struct coppicetune_record {
 
 /* ---- by numbers */
 
-/* The card and the stripe of logical block `block`, in an array of so many cards and stripes.
- * Values: the card, the stripe. Refused by 1 (cards or stripes beyond their limits) or 5 (no such block). */
-uint64_t coppicetune_place(uint64_t cards, uint64_t stripes, uint64_t block);
+/* The card and the stripe of logical block `block`, in an array of so many cards and stripes and this layout.
+ * Values: the card, the stripe. Refused by 1 (cards, stripes or layout beyond their limits) or 5 (no such block). */
+uint64_t coppicetune_place(uint64_t cards, uint64_t stripes, uint64_t layout, uint64_t block);
 
 /* What card `card` holds in stripe `stripe`.
  * Values: 0 and the number of the logical block, or 1 and 0 for parity.
- * Refused by 1 (cards or stripes beyond their limits) or 5 (no such card or stripe). */
-uint64_t coppicetune_block_at(uint64_t cards, uint64_t stripes, uint64_t card, uint64_t stripe);
+ * Refused by 1 (cards, stripes or layout beyond their limits) or 5 (no such card or stripe). */
+uint64_t coppicetune_block_at(uint64_t cards, uint64_t stripes, uint64_t layout, uint64_t card, uint64_t stripe);
 
-/* Whether parity is right in every stripe of an array with nothing open. The state's seven numbers: `out` is the card that is out, or 255 for
- * none; the array is lost if `lost` is not 0; `fill` is the stripe to be filled next, or 65535 for no fill.
+/* Whether parity is right in every stripe of an array with nothing open. The state's eight numbers: `layout` is 4 or 5; `out` is the card
+ * that is out, or 255 for none; the array is lost if `lost` is not 0; `fill` is the stripe to be filled next, or 65535 for no fill.
  * Values: none where parity is right. Refused by 1, 2, 4, 12 or 13; 13 has the lowest stripe and the lowest byte in it where parity disagrees. */
-uint64_t coppicetune_scan(uint64_t cards, uint64_t stripes, uint64_t block, uint64_t records, uint64_t out, uint64_t lost,
-                          uint64_t fill, const uint8_t *image, size_t image_len);
+uint64_t coppicetune_scan(uint64_t cards, uint64_t stripes, uint64_t block, uint64_t records, uint64_t layout, uint64_t out,
+                          uint64_t lost, uint64_t fill, const uint8_t *image, size_t image_len);
 
 /* ---- the engine: the same state, table, work store and image go from call to call */
 
-/* Opens an array of so many cards, stripes, bytes in a block and records, with card `out` out, or 255 for none; with none out parity must be
- * right. Accepted, it stores the new state, whatever was in `state`, and frees every record; refused, all stays as it was.
+/* Opens an array of so many cards, stripes, bytes in a block and records, of layout 4 or 5, with card `out` out, or 255 for none; with none out
+ * parity must be right. Accepted, it stores the new state, whatever was in `state`, and frees every record; refused, all stays as it was.
  * Values: none. Refused by 1, 2 or 13; 13 has the lowest stripe and the lowest byte in it where parity disagrees. */
 uint64_t coppicetune_open(struct coppicetune_state *state, struct coppicetune_record *table, size_t table_len,
                           const uint8_t *work, size_t work_len, const uint8_t *image, size_t image_len, uint64_t cards,
-                          uint64_t stripes, uint64_t block, uint64_t records, uint64_t out);
+                          uint64_t stripes, uint64_t block, uint64_t records, uint64_t layout, uint64_t out);
 
 /* Admits a request of the units in `mask` of a stripe: a read where `write` is 0, a write where it is any other number. A write's payload is
  * its units, ascending; a read's is 0 bytes.

@@ -1,4 +1,4 @@
-/* A recorder in small: opens an array, writes through a card's failure, reads all back.
+/* A recorder in small: opens an array of either layout, writes through a card's failure, reads all back.
  *
  * It uses only include/coppicetune.h. Every answer and every byte that it knows beforehand is
  * checked; it says what is wrong, and exits with 1, at the first that differs.
@@ -16,10 +16,13 @@ static struct coppicetune_record table[RECORDS];
 static uint8_t work[WORK];
 static uint8_t image[IMAGE];
 
+/* The layout of the array. */
+static uint64_t layout;
+
 static void expect(int holds, const char *what)
 {
     if (!holds) {
-        printf("engine.c: not so: %s\n", what);
+        printf("engine.c: not so: %s (layout %d)\n", what, (int)layout);
         exit(1);
     }
 }
@@ -56,7 +59,7 @@ static void prepare(void)
     static const uint8_t unit[UNITS] = {0x11, 0x22, 0x44};
     for (uint64_t stripe = 0; stripe < STRIPES; stripe++) {
         for (uint64_t card = 0; card < CARDS; card++) {
-            uint64_t there = coppicetune_block_at(CARDS, STRIPES, card, stripe);
+            uint64_t there = coppicetune_block_at(CARDS, STRIPES, layout, card, stripe);
             expect(accepted(there), "a card and stripe hold a block or parity");
             int parity = coppicetune_first(there) == 1;
             fill(card, stripe, parity ? 0x77 : unit[coppicetune_second(there) % UNITS]);
@@ -67,7 +70,7 @@ static void prepare(void)
 /* The card of a unit, from its logical block number. */
 static uint64_t card_of(uint64_t stripe, uint64_t unit)
 {
-    uint64_t there = coppicetune_place(CARDS, STRIPES, stripe * UNITS + unit);
+    uint64_t there = coppicetune_place(CARDS, STRIPES, layout, stripe * UNITS + unit);
     expect(is(there, COPPICETUNE_ACCEPTED, coppicetune_first(there), stripe), "a block is on its stripe");
     return coppicetune_first(there);
 }
@@ -75,10 +78,10 @@ static uint64_t card_of(uint64_t stripe, uint64_t unit)
 static void open_array(void)
 {
     uint64_t answer = coppicetune_open(&state, table, RECORDS, work, WORK, image, IMAGE, CARDS,
-                                       STRIPES, BLOCK, RECORDS, COPPICETUNE_NONE);
+                                       STRIPES, BLOCK, RECORDS, layout, COPPICETUNE_NONE);
     expect(answer == 0, "the array opens");
     expect(state.cards == CARDS && state.stripes == STRIPES && state.block == BLOCK &&
-               state.records == RECORDS && state.out == COPPICETUNE_NONE && state.lost == 0 &&
+               state.records == RECORDS && state.layout == layout && state.out == COPPICETUNE_NONE && state.lost == 0 &&
                state.fill == COPPICETUNE_NO_FILL,
            "its state is as asked");
     for (int at = 0; at < RECORDS; at++)
@@ -130,7 +133,9 @@ static void write_through_a_failure(void)
     expect(step(0, READ_PARITY) == 0, "parity is read");
     expect(step(0, SUM) == 0, "the exclusive or is done");
 
+    /* Unit 1 of stripe 1 of four cards: on card 1 by level 4, on card 0 by level 5. */
     uint64_t card = card_of(STRIPE, 1);
+    expect(card == (layout == COPPICETUNE_LEVEL_4 ? 1 : 0), "the unit is on its card");
     expect(coppicetune_report(&state, card) == 0 && state.out == card, "the card is out");
     expect(coppicetune_report(&state, card) == COPPICETUNE_OUT, "and is not reported twice");
     for (uint64_t stripe = 0; stripe < STRIPES; stripe++)
@@ -139,7 +144,7 @@ static void write_through_a_failure(void)
     uint64_t afresh = step(0, WRITE);
     expect(is(afresh, COPPICETUNE_ACCEPTED, 4, 0), "graph 4 is chosen afresh");
     finish(0);
-    uint64_t parity_card = 2;
+    uint64_t parity_card = layout == COPPICETUNE_LEVEL_4 ? 3 : 2;
     expect(filled(parity_card, STRIPE, 0x66), "parity is 66");
     expect(filled(card, STRIPE, 0xDD), "nothing is written to the card that is out");
     uint64_t collected = collect(0, NULL, 0);
@@ -164,23 +169,28 @@ static void read_back(void)
     }
 }
 
-/* What the idle array's scan says, by the state's seven numbers. */
+/* What the idle array's scan says, by the state's eight numbers. */
 static uint64_t scan(void)
 {
-    return coppicetune_scan(state.cards, state.stripes, state.block, state.records, state.out,
-                            state.lost, state.fill, image, IMAGE);
+    return coppicetune_scan(state.cards, state.stripes, state.block, state.records, state.layout,
+                            state.out, state.lost, state.fill, image, IMAGE);
 }
 
-int main(void)
+/* The whole race in one layout. */
+static void race(uint64_t number)
 {
+    layout = number;
     prepare();
     image[IMAGE - 1] ^= 1;
     state.cards = 9;
     uint64_t refused = coppicetune_open(&state, table, RECORDS, work, WORK, image, IMAGE, CARDS,
-                                        STRIPES, BLOCK, RECORDS, COPPICETUNE_NONE);
+                                        STRIPES, BLOCK, RECORDS, layout, COPPICETUNE_NONE);
     expect(is(refused, COPPICETUNE_DISAGREES, STRIPES - 1, BLOCK - 1), "a wrong byte is found");
     expect(state.cards == 9, "a refused opening leaves the state as it was");
     image[IMAGE - 1] ^= 1;
+    refused = coppicetune_open(&state, table, RECORDS, work, WORK, image, IMAGE, CARDS, STRIPES, BLOCK, RECORDS, layout + 2,
+                               COPPICETUNE_NONE);
+    expect(refused == COPPICETUNE_BEYOND && state.cards == 9, "there is no layout 6 or 7");
 
     open_array();
     expect(scan() == 0, "parity is right");
@@ -190,6 +200,12 @@ int main(void)
     expect(coppicetune_report(&state, (state.out + 1) % CARDS) == 0, "a second card is reported");
     expect(state.lost == 1 && scan() == COPPICETUNE_LOST, "the array is lost");
     expect(admit(0, 0, 1, NULL, 0) == COPPICETUNE_LOST, "and takes no request");
+}
+
+int main(void)
+{
+    race(COPPICETUNE_LEVEL_5);
+    race(COPPICETUNE_LEVEL_4);
     puts("engine.c: all as it should be");
     return 0;
 }

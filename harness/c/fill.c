@@ -1,5 +1,5 @@
 /* A spare card in the middle of the race: a card dies, a fresh one is filled while requests go on, the fresh one dies and another is
- * filled; then a card that was never touched dies, and every block is read back.
+ * filled; then a card that was never touched dies, and every block is read back. All of it in both layouts.
  *
  * It uses only include/coppicetune.h. What each block should hold is kept beside the array; it says what is wrong, and exits with 1, at
  * the first that differs.
@@ -18,13 +18,16 @@ static struct coppicetune_record table[RECORDS];
 static uint8_t work[WORK];
 static uint8_t image[IMAGE];
 
+/* The layout of the array. */
+static uint64_t layout;
+
 /* The byte that fills each unit, as its last writer knows it. */
 static uint8_t row[STRIPES][UNITS];
 
 static void expect(int holds, const char *what)
 {
     if (!holds) {
-        printf("fill.c: not so: %s (card out %d, fill place %d)\n", what, (int)state.out, (int)state.fill);
+        printf("fill.c: not so: %s (layout %d, card out %d, fill place %d)\n", what, (int)layout, (int)state.out, (int)state.fill);
         exit(1);
     }
 }
@@ -39,11 +42,14 @@ static int gives(uint64_t answer, uint64_t first)
 /* The block of a card in a stripe. */
 static uint8_t *cell(uint64_t card, uint64_t stripe) { return image + (card * STRIPES + stripe) * BLOCK; }
 
-/* The byte that should fill the block of a card in a stripe: a unit of the row, or its parity. */
+/* The byte that should fill the block of a card in a stripe: a unit of the row, or its parity. By level 4 unit i is on card i; by level 5
+ * the library itself says what is there. */
 static uint8_t right(uint64_t card, uint64_t stripe)
 {
-    uint64_t there = coppicetune_block_at(CARDS, STRIPES, card, stripe);
-    if (coppicetune_first(there) == 0)
+    uint64_t there = coppicetune_block_at(CARDS, STRIPES, layout, card, stripe);
+    if (layout == COPPICETUNE_LEVEL_4 && card < UNITS)
+        return row[stripe][card];
+    if (layout == COPPICETUNE_LEVEL_5 && coppicetune_first(there) == 0)
         return row[stripe][coppicetune_second(there) % UNITS];
     uint8_t sum = 0;
     for (int unit = 0; unit < UNITS; unit++)
@@ -142,8 +148,8 @@ static void prepare(void)
         for (uint64_t card = 0; card < CARDS; card++)
             memset(cell(card, stripe), right(card, stripe), BLOCK);
     uint64_t opened = coppicetune_open(&state, table, RECORDS, work, WORK, image, IMAGE, CARDS, STRIPES, BLOCK, RECORDS,
-                                       COPPICETUNE_NONE);
-    expect(opened == 0 && state.fill == COPPICETUNE_NO_FILL, "the array opens, and nothing is filled");
+                                       layout, COPPICETUNE_NONE);
+    expect(opened == 0 && state.layout == layout && state.fill == COPPICETUNE_NO_FILL, "the array opens, and nothing is filled");
     expect(rebuild() == COPPICETUNE_NOTHING_TO_FILL, "there is nothing to rebuild");
     expect(coppicetune_start(&state) == COPPICETUNE_NOTHING_TO_FILL, "and nothing to start");
 }
@@ -173,8 +179,10 @@ static void fill_to(uint64_t end, uint8_t byte)
     }
 }
 
-int main(void)
+/* The whole race in one layout. */
+static void race(uint64_t number)
 {
+    layout = number;
     prepare();
     card_dies(FIRST_DEAD);
     fill_to(4, 0xA0);
@@ -197,8 +205,8 @@ int main(void)
     fill_to(STRIPES, 0xC0);
     expect(state.out == COPPICETUNE_NONE && state.fill == COPPICETUNE_NO_FILL, "after the last stripe no card is out");
     expect(check() == 0, "parity is right");
-    expect(coppicetune_scan(state.cards, state.stripes, state.block, state.records, state.out, state.lost, state.fill, image,
-                            IMAGE) == 0,
+    expect(coppicetune_scan(state.cards, state.stripes, state.block, state.records, state.layout, state.out, state.lost,
+                            state.fill, image, IMAGE) == 0,
            "and by the idle array's scan");
 
     /* Then another card dies: what the filled one holds is needed now. */
@@ -209,6 +217,13 @@ int main(void)
     expect(coppicetune_report(&state, FIRST_DEAD) == 0 && state.lost == 1, "a second card loses the array");
     expect(state.out == NEXT_DEAD && state.fill == STRIPES - 1, "and nothing else changes");
     expect(rebuild() == COPPICETUNE_LOST, "which is filled no more");
+    expect(state.layout == layout, "and has the layout that it was opened in");
+}
+
+int main(void)
+{
+    race(COPPICETUNE_LEVEL_5);
+    race(COPPICETUNE_LEVEL_4);
     puts("fill.c: all as it should be");
     return 0;
 }

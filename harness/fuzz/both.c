@@ -22,11 +22,11 @@ int accepted(uint64_t answer) { return coppicetune_number(answer) == COPPICETUNE
 
 static void stop(const char *what, const struct ask *ask, uint64_t tested, uint64_t plain)
 {
-    fprintf(stderr, "%s: call %d (%llu, %llu, %llu, %llu, %llu) gave %llx, plain engine %llx\n",
+    fprintf(stderr, "%s: call %d (%llu, %llu, %llu, %llu, %llu, %llu) gave %llx, plain engine %llx\n",
             what, ask->call, (unsigned long long)ask->number[0],
             (unsigned long long)ask->number[1], (unsigned long long)ask->number[2],
             (unsigned long long)ask->number[3], (unsigned long long)ask->number[4],
-            (unsigned long long)tested, (unsigned long long)plain);
+            (unsigned long long)ask->number[5], (unsigned long long)tested, (unsigned long long)plain);
     abort();
 }
 
@@ -43,18 +43,19 @@ static uint64_t make_tested(const struct ask *ask, struct side *s, int at_end)
     uint64_t answer = 0;
     switch (ask->call) {
     case PLACE:
-        answer = coppicetune_place(n[0], n[1], n[2]);
+        answer = coppicetune_place(n[0], n[1], n[2], n[3]);
         break;
     case BLOCK_AT:
-        answer = coppicetune_block_at(n[0], n[1], n[2], n[3]);
+        answer = coppicetune_block_at(n[0], n[1], n[2], n[3], n[4]);
         break;
     case SCAN:
         answer = coppicetune_scan(state->cards, state->stripes, state->block, state->records,
-                                  state->out, state->lost, state->fill, image, s->image_len);
+                                  state->layout, state->out, state->lost, state->fill, image,
+                                  s->image_len);
         break;
     case OPEN:
         answer = coppicetune_open(state, table, s->table_len, work, s->work_len, image,
-                                  s->image_len, n[0], n[1], n[2], n[3], n[4]);
+                                  s->image_len, n[0], n[1], n[2], n[3], n[4], n[5]);
         break;
     case ADMIT:
         answer = coppicetune_admit(state, table, s->table_len, work, s->work_len, image,

@@ -31,7 +31,7 @@ enum call { PLACE, BLOCK_AT, SCAN, OPEN, ADMIT, STEP, REPORT, COLLECT, CHECK, ST
 /* A call and its numbers, in the order of its arguments. */
 struct ask {
     enum call call;
-    uint64_t number[5];
+    uint64_t number[6];
 };
 
 /* Makes a call of the plain engine. */

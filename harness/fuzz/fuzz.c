@@ -26,14 +26,22 @@ static uint8_t next(void)
 static uint64_t number(uint64_t limit)
 {
     static const uint64_t wild[] = {
-        0,    1,    2,    3,    4,       8,           9,           16,         24,
-        128,  254,  255,  256,  257,     512,         513,         528,        1023,
-        1024, 1025, 65534, 65535, 1 << 16, 1ull << 32, 1ull << 63, 0ull - 1,
+        0,    1,    2,     3,     4,       5,          6,          8,                9,
+        16,   24,   128,   254,   255,     256,        257,        512,              513,
+        528,  1023, 1024,  1025,  65534,   65535,      1 << 16,    1ull << 32,       (1ull << 32) + 4,
+        (1ull << 32) + 5, 1ull << 63, 0ull - 1,
     };
     uint8_t byte = next();
-    if (byte >= 230)
-        return wild[(byte - 230) % (sizeof wild / sizeof *wild)];
+    if (byte >= 226)
+        return wild[(byte - 226) % (sizeof wild / sizeof *wild)];
     return byte % (limit + 1);
+}
+
+/* A layout: 4 or 5, or now and then another number. */
+static uint64_t some_layout(void)
+{
+    uint8_t byte = next();
+    return byte % 16 != 0 ? 4u + (byte & 1u) : number(8);
 }
 
 /* Sets a byte in both images. */
@@ -55,6 +63,7 @@ static void prepare(void)
     uint8_t size = next();
     state->block = 16 * (size < 200 ? 1 + size % 3 : 1 + size % 32);
     state->records = 1 + next() % 8;
+    state->layout = 4 + (next() & 1);
     state->out = 255;
     state->fill = COPPICETUNE_NO_FILL;
     ours.table_len = state->records;
@@ -211,11 +220,11 @@ static void deed(int at_end)
     state_t now = ours.state;
     switch (next() % 20) {
     case 0:
-        make(&(struct ask){OPEN, {number(8), number(6), 16 * number(4), number(8), number(255)}},
+        make(&(struct ask){OPEN, {number(8), number(6), 16 * number(4), number(8), some_layout(), number(255)}},
              at_end);
         break;
     case 1:
-        make(&(struct ask){OPEN, {now.cards, now.stripes, now.block, now.records, number(255)}},
+        make(&(struct ask){OPEN, {now.cards, now.stripes, now.block, now.records, some_layout(), number(255)}},
              at_end);
         break;
     case 2:
@@ -241,8 +250,8 @@ static void deed(int at_end)
         make(&(struct ask){SCAN, {0}}, at_end);
         break;
     case 11:
-        make(&(struct ask){PLACE, {number(8), number(255), number(255)}}, at_end);
-        make(&(struct ask){BLOCK_AT, {number(8), number(255), number(7), number(255)}}, at_end);
+        make(&(struct ask){PLACE, {number(8), number(255), some_layout(), number(255)}}, at_end);
+        make(&(struct ask){BLOCK_AT, {number(8), number(255), some_layout(), number(7), number(255)}}, at_end);
         break;
     case 12:
         change_record();
@@ -284,7 +293,7 @@ int LLVMFuzzerTestOneInput(const uint8_t *data, size_t size)
     int at_end = next() & 1;
     prepare();
     make(&(struct ask){OPEN, {ours.state.cards, ours.state.stripes, ours.state.block,
-                              ours.state.records, next() % 4 ? 255 : number(7)}},
+                              ours.state.records, ours.state.layout, next() % 4 ? 255 : number(7)}},
          at_end);
     for (int deeds = 0; deeds < MOST_DEEDS && input_left > 0; deeds++)
         deed(at_end);

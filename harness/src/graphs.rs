@@ -96,9 +96,9 @@ impl Asked {
     }
 }
 
-/// A state is seven numbers, and a table eight for each record; both are laid out as C lays them out.
+/// A state is eight numbers, and a table eight for each record; both are laid out as C lays them out.
 fn state_numbers(state: &State) -> (*const u64, usize) {
-    (state as *const State as *const u64, 7)
+    (state as *const State as *const u64, 8)
 }
 
 fn table_numbers(table: &[Record]) -> (*const u64, usize) {

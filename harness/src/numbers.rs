@@ -11,5 +11,9 @@ pub fn wild() -> Vec<u64> {
         numbers.extend([power - 1, power, power + 1]);
     }
     numbers.extend([65_534, u64::MAX - 1, u64::MAX]);
+    // The numbers of the layouts, with a bit more at each width.
+    for width in [8, 16, 32, 63] {
+        numbers.extend([(1 << width) + 4, (1 << width) + 5]);
+    }
     numbers
 }

@@ -2,13 +2,14 @@
 use crate::calls::{Calls, Lent, Record, State};
 
 extern "C" {
-    fn coppicetune_place(cards: u64, stripes: u64, block: u64) -> u64;
-    fn coppicetune_block_at(cards: u64, stripes: u64, card: u64, stripe: u64) -> u64;
+    fn coppicetune_place(cards: u64, stripes: u64, layout: u64, block: u64) -> u64;
+    fn coppicetune_block_at(cards: u64, stripes: u64, layout: u64, card: u64, stripe: u64) -> u64;
     fn coppicetune_scan(
         cards: u64,
         stripes: u64,
         block: u64,
         records: u64,
+        layout: u64,
         out: u64,
         lost: u64,
         fill: u64,
@@ -27,6 +28,7 @@ extern "C" {
         stripes: u64,
         block: u64,
         records: u64,
+        layout: u64,
         out: u64,
     ) -> u64;
     fn coppicetune_admit(
@@ -87,18 +89,20 @@ pub struct Library;
 
 // Safe: each call takes any numbers, lends whole slices for its own time only, and the structs have C's layout.
 impl Calls for Library {
-    fn place(&self, cards: u64, stripes: u64, block: u64) -> u64 {
-        unsafe { coppicetune_place(cards, stripes, block) }
+    fn place(&self, cards: u64, stripes: u64, layout: u64, block: u64) -> u64 {
+        unsafe { coppicetune_place(cards, stripes, layout, block) }
     }
 
-    fn block_at(&self, cards: u64, stripes: u64, card: u64, stripe: u64) -> u64 {
-        unsafe { coppicetune_block_at(cards, stripes, card, stripe) }
+    fn block_at(&self, cards: u64, stripes: u64, layout: u64, card: u64, stripe: u64) -> u64 {
+        unsafe { coppicetune_block_at(cards, stripes, layout, card, stripe) }
     }
 
     fn scan(&self, state: &State, image: &[u8]) -> u64 {
-        let State { cards, stripes, block, records, out, lost, fill } = *state;
+        let State { cards, stripes, block, records, layout, out, lost, fill } = *state;
         let (at, len) = (image.as_ptr(), image.len());
-        unsafe { coppicetune_scan(cards, stripes, block, records, out, lost, fill, at, len) }
+        unsafe {
+            coppicetune_scan(cards, stripes, block, records, layout, out, lost, fill, at, len)
+        }
     }
 
     fn open(&self, lent: &mut Lent, asked: &State) -> u64 {
@@ -115,6 +119,7 @@ impl Calls for Library {
                 asked.stripes,
                 asked.block,
                 asked.records,
+                asked.layout,
                 asked.out,
             )
         }

@@ -1,6 +1,6 @@
 //! C programs, compiled against the header, call each function.
 use harness::program::command;
-use std::path::Path;
+use std::path::{Path, PathBuf};
 use std::process::Command;
 
 /// Compiles a program against the header, by gcc or by the compiler that the environment names as `CC`, and runs it; what it writes. It ends
@@ -45,14 +45,24 @@ fn a_c_program_fills_a_card_while_requests_go_on() {
     run("fill");
 }
 
-/// The example of README.md is what stands there between the marks of a C text.
+/// What stands in a document between the marks of a C text, the first there is, with this behind it, as a program of this name.
+fn documented(document: &str, behind: &str, name: &str) -> PathBuf {
+    let path = Path::new(env!("CARGO_MANIFEST_DIR")).join("..").join(document);
+    let text = std::fs::read_to_string(path).expect("the document is there");
+    let (_, from) = text.split_once("```c\n").expect("it has a C text");
+    let (example, _) = from.split_once("```").expect("the C text ends");
+    let source = Path::new(env!("CARGO_TARGET_TMPDIR")).join(name);
+    std::fs::write(&source, format!("{example}\n{behind}")).expect("the program is written");
+    source
+}
+
 #[test]
 fn the_example_of_the_readme() {
-    let home = Path::new(env!("CARGO_MANIFEST_DIR"));
-    let readme = std::fs::read_to_string(home.join("../README.md")).expect("README.md is there");
-    let (_, from) = readme.split_once("```c\n").expect("it has an example in C");
-    let (example, _) = from.split_once("```").expect("the example ends");
-    let source = Path::new(env!("CARGO_TARGET_TMPDIR")).join("example.c");
-    std::fs::write(&source, example).expect("the example is written");
-    assert_eq!(output(&source), "as sent\n");
+    assert_eq!(output(&documented("README.md", "", "example.c")), "as sent\n");
+}
+
+#[test]
+fn the_old_box_of_the_c_interface() {
+    let behind = include_str!("../c/old_box.c");
+    assert_eq!(output(&documented("docs/C-INTERFACE.md", behind, "old_box.c")), "");
 }

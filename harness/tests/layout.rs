@@ -1,4 +1,4 @@
-//! The layout program, run on inputs good and bad: the whole output against the independent implementation's.
+//! The layout program, which prints layout 5, run on inputs good and bad: the whole output against the independent implementation's.
 use harness::plain::layout;
 use harness::program::{output, output_of_pieces};
 use harness::random::Random;
@@ -85,6 +85,7 @@ fn text_of_any_other_kind() {
         b"5 5\n\0",
         b"5 5 \n",
         b"5 5 5\n",
+        b"5 5 4\n",
         b"5 5x\n",
         b"5 5\n\x1a",
         // other spaces and line ends

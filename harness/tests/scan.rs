@@ -36,7 +36,7 @@ fn right_image(numbers: &mut Random, state: &State) -> Vec<u8> {
     image
 }
 
-/// Every legal N with several S and B.
+/// Every legal N with several S and B, in both layouts.
 fn shapes() -> Vec<State> {
     let mut shapes = Vec::new();
     for cards in 3..=8 {
@@ -49,7 +49,7 @@ fn shapes() -> Vec<State> {
         shapes.push(State::whole(cards, 1023, 48));
     }
     shapes.push(State::whole(8, 1024, 512));
-    shapes
+    shapes.into_iter().flat_map(State::in_both_layouts).collect()
 }
 
 #[test]
@@ -144,6 +144,24 @@ fn random_images() {
     }
 }
 
+/// Parity is the exclusive or of a stripe's units wherever it stands: of any image both layouts answer the same.
+#[test]
+fn both_layouts_answer_the_same() {
+    let mut numbers = Random::new(9);
+    for state in shapes().into_iter().filter(|state| state.layout == 4) {
+        let five = State { layout: 5, ..state };
+        let mut image = right_image(&mut numbers, &state);
+        assert_eq!(same(&five, &image), Answer::accepted(0, 0));
+        make_right(&five, &mut image);
+        assert_eq!(same(&state, &image), Answer::accepted(0, 0));
+        for _ in 0..4 {
+            let at = pick(&mut numbers, image.len());
+            image[at] ^= 1 << numbers.below(8);
+            assert_eq!(same(&state, &image), same(&five, &image));
+        }
+    }
+}
+
 #[test]
 fn wrong_lengths() {
     let mut numbers = Random::new(6);
@@ -171,17 +189,19 @@ fn the_limits() {
             1 => state.stripes = number,
             2 => state.block = number,
             3 => state.records = number,
-            4 => state.out = number,
-            5 => state.lost = number,
+            4 => state.layout = number,
+            5 => state.out = number,
+            6 => state.lost = number,
             _ => state.fill = number,
         }
         state
     };
-    for first in 0..7 {
-        for second in first..7 {
+    for whole in State::whole(3, 2, 16).in_both_layouts() {
+        for (first, second) in (0..8).flat_map(|first| (first..8).map(move |other| (first, other)))
+        {
             for &a in &numbers {
                 for &b in &numbers {
-                    let state = with(with(State::whole(3, 2, 16), first, a), second, b);
+                    let state = with(with(whole, first, a), second, b);
                     same(&state, &image);
                     same(&state, &image[1..]);
                 }
@@ -207,6 +227,14 @@ fn the_lowest_refusal() {
             State { block: 528, ..lost },
             State { records: 0, ..lost },
             State { records: 9, ..lost },
+            State { layout: 0, ..lost },
+            State { layout: 3, ..lost },
+            State { layout: 6, ..lost },
+            State { layout: 255, ..lost },
+            State { layout: (1 << 16) + 5, ..lost },
+            State { layout: (1 << 32) + 4, ..lost },
+            State { layout: (1 << 32) + 5, ..lost },
+            State { layout: u64::MAX, ..lost },
             State { out: state.cards, ..lost },
             State { out: 254, ..lost },
             State { out: 256, ..lost },
@@ -248,6 +276,7 @@ fn what_check_answers_with_nothing_open() {
         for _ in 0..12 {
             let state = State {
                 records: numbers.between(1, 8),
+                layout: numbers.pick(&[4, 4, 4, 5, 5, 5, 3, 6]),
                 out: numbers.pick(&[255, 0, state.cards - 1, state.cards]),
                 lost: numbers.pick(&[0, 0, 0, 1]),
                 fill: numbers.pick(&[65_535, 65_535, 0, state.stripes - 1, state.stripes]),

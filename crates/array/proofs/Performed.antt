@@ -57,14 +57,14 @@ module _ (st : State) (i : ℕ) (r : Record) (work image : List ℕ) (k : Standi
   standing-bounds = legal-bounds (st .cards) (st .stripes) (st .block) (st .records) (k .limits)
 
   -- the card of a position, as the code finds it
-  pub card-found : (p card : ℕ) → p < st .cards → card ≡ cardIn (st .cards) (r .stripe) p → card ≡ cardOfPosition st (r .stripe) p
-  card-found p card h e = e ∙ cardIn-is (st .cards) (r .stripe) p h
+  pub card-found : (p card : ℕ) → p < st .cards → card ≡ cardIn (st .cards) (st .layout) (r .stripe) p → card ≡ cardOfPosition st (r .stripe) p
+  card-found p card h e = e ∙ cardIn-is (st .cards) (st .layout) (r .stripe) p h
 
-  pub card-below : (p card : ℕ) → p < st .cards → card ≡ cardIn (st .cards) (r .stripe) p → card < st .cards
+  pub card-below : (p card : ℕ) → p < st .cards → card ≡ cardIn (st .cards) (st .layout) (r .stripe) p → card < st .cards
   card-below p card h e = rw (card-found p card h e) (placed-in st (omega (arith, standing-bounds)) .card-below (r .stripe) p h)
 
   -- the blocks of a position lie within the image and the work store
-  pub cell-room : (p card at : ℕ) → p < st .cards → card ≡ cardIn (st .cards) (r .stripe) p → at ≡ cellAt (st .stripes) (st .block) card (r .stripe)
+  pub cell-room : (p card at : ℕ) → p < st .cards → card ≡ cardIn (st .cards) (st .layout) (r .stripe) p → at ≡ cellAt (st .stripes) (st .block) card (r .stripe)
       → at + st .block ≤ length image
   cell-room p card at h e is =
       omega (arith, k .image-right, cell-inside (st .cards) (st .stripes) (st .block) card (r .stripe) (card-below p card h e) (k .stripe-below))
@@ -75,7 +75,7 @@ module _ (st : State) (i : ℕ) (r : Record) (work image : List ℕ) (k : Standi
   pub write-room : (p at : ℕ) → p < st .cards → at ≡ writeAt (st .cards) (st .block) i p → at + st .block ≤ length work
   write-room p at h is = omega (arith, k .work-right, write-inside (st .cards) (st .block) (st .records) i p (k .record-below) h)
 
-  pub performed-read : (p card at : ℕ) (cell b : List ℕ) → p < st .cards → card ≡ cardIn (st .cards) (r .stripe) p
+  pub performed-read : (p card at : ℕ) (cell b : List ℕ) → p < st .cards → card ≡ cardIn (st .cards) (st .layout) (r .stripe) p
       → at ≡ readAt (st .cards) (st .block) i p → cell ≡ part (cellAt (st .stripes) (st .block) card (r .stripe)) (st .block) image
       → b ≡ copied (midOf at (at + st .block - at) work) cell → putMid at (at + st .block - at) work b ≡ workAfter st i r (rd p) work image
   unfolding workAfter
@@ -86,7 +86,7 @@ module _ (st : State) (i : ℕ) (r : Record) (work image : List ℕ) (k : Standi
       ∙ ap₂ (λ (a : ℕ) (l : List ℕ). put a l work) at-is
       (cell-is ∙ ap (λ (c : ℕ). part (cellAt (st .stripes) (st .block) c (r .stripe)) (st .block) image) (card-found p card h card-is))
 
-  pub performed-write : (p card at from : ℕ) (b : List ℕ) → p < st .cards → card ≡ cardIn (st .cards) (r .stripe) p
+  pub performed-write : (p card at from : ℕ) (b : List ℕ) → p < st .cards → card ≡ cardIn (st .cards) (st .layout) (r .stripe) p
       → at ≡ cellAt (st .stripes) (st .block) card (r .stripe) → from ≡ writeAt (st .cards) (st .block) i p
       → b ≡ copied (midOf at (at + st .block - at) image) (midOf from (from + st .block - from) work)
       → putMid at (at + st .block - at) image b ≡ imageAfter st i r (wr p) work image

@@ -14,7 +14,7 @@ use Rattle.array.specs.Refusals.{opened, openRefusal}
 
 -- a state that is all zero
 abbrev pub zeroState : State
-zeroState = record { cards = 0; stripes = 0; block = 0; records = 0; out = 0; lost = 0; fill = 0 }
+zeroState = record { cards = 0; stripes = 0; block = 0; records = 0; layout = 0; out = 0; lost = 0; fill = 0 }
 
 -- what open answers, and the new state, all zero if refused; the image and the work store stay
 pub record OpeningBy : Type 0 where

@@ -7,7 +7,7 @@ use mathlib.Core.List.{List, [], _∷_, _++_}
 use lib.Dec.{ltb, leb, eqb}
 use lib.ListN.{length}
 use Rattle.terms.specs.Reply.{Row, row, firstRow}
-use Rattle.geometry.specs.Limits.{none, noFill, underWay, beyond}
+use Rattle.geometry.specs.Limits.{none, noFill, underWay, beyond, stateOf}
 use Rattle.geometry.specs.Store.{imageWrong, workWrong}
 use Rattle.geometry.specs.declared.Geometry.{Geometry}
 use Rattle.geometry.specs.declared.State.{State}
@@ -23,8 +23,7 @@ use Rattle.array.specs.Lent.{tableWrong, lentRows, unitBytes}
 
 -- the state that an accepted opening makes of a geometry; no fill is under way
 unfoldable pub opened : Geometry → ℕ → State
-opened g out =
-    record { cards = g .cards; stripes = g .stripes; block = g .block; records = g .records; out = out; lost = 0; fill = noFill }
+opened g out = stateOf g out 0 noFill
 
 -- open, over a table of so many records: 1, 2 and 13
 unfoldable pub openRefusal : Geometry → ℕ → ℕ → List ℕ → List ℕ → ℕ

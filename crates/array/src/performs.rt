@@ -30,7 +30,7 @@ fn read(state: State, i: u64, r: Record, p: u64, work: &mut [u8], image: &[u8])
     ensures { λ _. ⌜ now (work .exit) ≡ workAfter state i r (rd p) (now (work .entry)) (now (image .entry)) ⌝ }
 {
     let size = state.block as usize;
-    let card = card_at(state.cards, r.stripe, p);
+    let card = card_at(state.cards, state.layout, r.stripe, p);
     let at = read_at(state, i, p);
     let end = at + size;
     copy(&mut work[at..end], cell(state, image, card, r.stripe));
@@ -42,7 +42,7 @@ fn write(state: State, i: u64, r: Record, p: u64, work: &[u8], image: &mut [u8])
     ensures { λ _. ⌜ now (image .exit) ≡ imageAfter state i r (wr p) (now (work .entry)) (now (image .entry)) ⌝ }
 {
     let size = state.block as usize;
-    let card = card_at(state.cards, r.stripe, p);
+    let card = card_at(state.cards, state.layout, r.stripe, p);
     let at = cell_at(state, card, r.stripe);
     let end = at + size;
     let from = write_at(state, i, p);

@@ -93,8 +93,8 @@ module _ {M : Type 1} (𝓤 : URA M) (H : Heap 𝓤) (𝓜 : Model 𝓤 H) (𝓖
 
   -- ---- the C functions
 
-  pub c-open-cited : Says c-open.ended (c-open.clauses 𝓤 H (𝓖 .A) (𝓜 .mem) (𝓡 .run)) (λ κs (state, (table, (work, (image, (cards, (stripes, (block, (records, (out, _))))))))) (state′, (table′, (_, (_, (_, (_, (_, (_, (_, _))))))))) r.
-      OpenedByFunction (record { cards = cards; stripes = stripes; block = block; records = records }) out (table .now) (work .now) (image .now)
+  pub c-open-cited : Says c-open.ended (c-open.clauses 𝓤 H (𝓖 .A) (𝓜 .mem) (𝓡 .run)) (λ κs (state, (table, (work, (image, (cards, (stripes, (block, (records, (layout, (out, _)))))))))) (state′, (table′, (_, (_, (_, (_, (_, (_, (_, (_, _)))))))))) r.
+      OpenedByFunction (record { cards = cards; stripes = stripes; block = block; records = records; layout = layout }) out (table .now) (work .now) (image .now)
       (record { reply = unpacked r; state = state′; table = table′ }))
   c-open-cited κs a ws r g = fact-mono 𝓤 _ _ (λ h. function.opens _ _ _ _ h)
 
@@ -128,6 +128,6 @@ module _ {M : Type 1} (𝓤 : URA M) (H : Heap 𝓤) (𝓜 : Model 𝓤 H) (𝓖
 
   -- ---- the scan of an array with nothing open
 
-  pub idle-cited : Says idle.ended (idle.clauses 𝓤 H (𝓖 .A) (𝓜 .mem) (𝓡 .run)) (λ κs (cards, (stripes, (block, (records, (out, (lost, (fill, (image, _)))))))) (_, (_, (_, (_, (_, (_, (_, (_, _)))))))) r.
-      r ≡ packed (idleScanReply (record { cards = cards; stripes = stripes; block = block; records = records; out = out; lost = lost; fill = fill }) (image .now)))
+  pub idle-cited : Says idle.ended (idle.clauses 𝓤 H (𝓖 .A) (𝓜 .mem) (𝓡 .run)) (λ κs (cards, (stripes, (block, (records, (layout, (out, (lost, (fill, (image, _))))))))) (_, (_, (_, (_, (_, (_, (_, (_, (_, _))))))))) r.
+      r ≡ packed (idleScanReply (record { cards = cards; stripes = stripes; block = block; records = records; layout = layout; out = out; lost = lost; fill = fill }) (image .now)))
   idle-cited κs a ws r g = fact-mono 𝓤 _ _ (λ h. h)

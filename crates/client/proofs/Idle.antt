@@ -50,7 +50,7 @@ module _ (st : State) (image : List ℕ) where
       ∙ firstRow-skip (not (rightParity (st .cards) (st .stripes) (st .block) image nothingHeld)) 13 [] (ap not all)
       ∙ (unfold firstRow in refl)
 
--- at the end of a history, whatever answer the contract of coppicetune_scan allows for the state's seven numbers and the image
+-- at the end of a history, whatever answer the contract of coppicetune_scan allows for the state's eight numbers and the image
 module _ {w : World} {a : Account} (h : History play w a) (whole : Whole a) (closed : (i : ℕ) → ¬ Open a i) where
   -- the records are not open, as the account says
   none-open : (i : ℕ) → i < w .state .records → isOpen (recordAt w i) ≡ false

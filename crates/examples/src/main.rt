@@ -4,6 +4,7 @@ use array::answers::Admission;
 use array::answers::Admitted;
 use array::answers::Opened;
 use geometry::Geometry;
+use geometry::LEVEL_5;
 use geometry::NONE;
 use geometry::Placed;
 use record::Table;
@@ -13,13 +14,14 @@ use telling::words;
 
 mod numbers;
 
-// A geometry with one record.
+// A geometry with one record, in layout 5.
 fn shape(cards: u64, stripes: u64, block: u64) -> Geometry {
     Geometry {
         cards,
         stripes,
         block,
         records: 1,
+        layout: LEVEL_5,
     }
 }
 
@@ -104,7 +106,7 @@ fn main() {
     tell_block(19);
     tell_block(20);
     tell_graph(b"none out, m=4: ", NONE);
-    tell_graph(b"parity out, m=4: ", geometry::card_at(5, 0, 4));
+    tell_graph(b"parity out, m=4: ", geometry::card_at(5, LEVEL_5, 0, 4));
     tell_open(b"N=2: ", shape(2, 5, 16));
     tell_open(b"N=9: ", shape(9, 5, 16));
     tell_open(b"B=24: ", shape(5, 5, 24));

@@ -12,48 +12,48 @@ use Rattle.geometry.specs.Limits.{none}
 use Rattle.geometry.specs.Placement.{stripeOf, cardOf, blockOf, positionOf}
 use Rattle.geometry.proofs.Bounds.{Bounds, within-limits}
 
-module _ (N S : ℕ) where
+module _ (N S layout : ℕ) where
   -- within the limits, with B taken as 16 and K as 1
-  pub places-bounds : beyondPlaces N S ≡ false → Bounds N S 16 1
-  places-bounds e = within-limits (placesOf N S) none e
+  pub places-bounds : beyondPlaces N S layout ≡ false → Bounds N S 16 1
+  places-bounds e = within-limits (placesOf N S layout) none e
 
   -- there are at most 7,168 blocks, so their numbers are small
-  pub blocks-few : beyondPlaces N S ≡ false → (s : ℕ) → s ≤ S → (N - 1) * s ≤ 7168
+  pub blocks-few : beyondPlaces N S layout ≡ false → (s : ℕ) → s ≤ S → (N - 1) * s ≤ 7168
   blocks-few e s h =
       let b = places-bounds e in
       let n : N - 1 ≤ 7 = omega arith in
       mul-le-mul n (le-trans h (b .stripes-high))
 
   module _ (L : ℕ) where
-    pub place-beyond : beyondPlaces N S ≡ true → placeReply N S L ≡ refused 1
+    pub place-beyond : beyondPlaces N S layout ≡ true → placeReply N S layout L ≡ refused 1
     unfolding placeReply placeRefusal firstRow
     place-beyond e = simp e
 
-    pub place-range : beyondPlaces N S ≡ false → (N - 1) * S ≤ L → placeReply N S L ≡ refused 5
+    pub place-range : beyondPlaces N S layout ≡ false → (N - 1) * S ≤ L → placeReply N S layout L ≡ refused 5
     unfolding placeReply placeRefusal firstRow
     place-range e h = simp (e, le-leb _ _ h)
 
-    pub place-found : beyondPlaces N S ≡ false → L < (N - 1) * S → placeReply N S L ≡ accepted (cardOf N L) (stripeOf N L)
+    pub place-found : beyondPlaces N S layout ≡ false → L < (N - 1) * S → placeReply N S layout L ≡ accepted (cardOf N layout L) (stripeOf N L)
     unfolding placeReply placeRefusal firstRow
     place-found e h = simp (e, lt-leb _ _ h)
 
   module _ (c s : ℕ) where
-    pub block-at-beyond : beyondPlaces N S ≡ true → blockAtReply N S c s ≡ refused 1
+    pub block-at-beyond : beyondPlaces N S layout ≡ true → blockAtReply N S layout c s ≡ refused 1
     unfolding blockAtReply blockAtRefusal firstRow
     block-at-beyond e = simp e
 
-    pub block-at-no-card : beyondPlaces N S ≡ false → N ≤ c → blockAtReply N S c s ≡ refused 5
+    pub block-at-no-card : beyondPlaces N S layout ≡ false → N ≤ c → blockAtReply N S layout c s ≡ refused 5
     unfolding blockAtReply blockAtRefusal firstRow
     block-at-no-card e h = simp (e, le-leb _ _ h)
 
-    pub block-at-no-stripe : beyondPlaces N S ≡ false → c < N → S ≤ s → blockAtReply N S c s ≡ refused 5
+    pub block-at-no-stripe : beyondPlaces N S layout ≡ false → c < N → S ≤ s → blockAtReply N S layout c s ≡ refused 5
     unfolding blockAtReply blockAtRefusal firstRow
     block-at-no-stripe e hc h = simp (e, lt-leb _ _ hc, le-leb _ _ h)
 
-    pub block-at-parity : beyondPlaces N S ≡ false → c < N → s < S → positionOf N s c ≡ N - 1 → blockAtReply N S c s ≡ accepted 1 0
+    pub block-at-parity : beyondPlaces N S layout ≡ false → c < N → s < S → positionOf N layout s c ≡ N - 1 → blockAtReply N S layout c s ≡ accepted 1 0
     unfolding blockAtReply blockAtRefusal firstRow
     block-at-parity e hc hs p = simp (e, lt-leb _ _ hc, lt-leb _ _ hs, eq-eqb _ _ p)
 
-    pub block-at-found : beyondPlaces N S ≡ false → c < N → s < S → ¬ (positionOf N s c ≡ N - 1) → blockAtReply N S c s ≡ accepted 0 (blockOf N s (positionOf N s c))
+    pub block-at-found : beyondPlaces N S layout ≡ false → c < N → s < S → ¬ (positionOf N layout s c ≡ N - 1) → blockAtReply N S layout c s ≡ accepted 0 (blockOf N s (positionOf N layout s c))
     unfolding blockAtReply blockAtRefusal firstRow
     block-at-found e hc hs p = simp (e, lt-leb _ _ hc, lt-leb _ _ hs, ne-eqb _ _ p)

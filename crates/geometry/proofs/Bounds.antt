@@ -9,7 +9,7 @@ use lib.Dec.{ltb, eqb}
 use borrow.Author.Tests.{ltb-true, eqb-true, eq-eqb, not-false}
 use Rattle.terms.specs.Sets.{within}
 use Rattle.terms.proofs.Rows.{and-left, and-right, and-both, or-cases, within-low, within-high, within-intro}
-use Rattle.geometry.specs.Limits.{legal, legalOut, none, beyond}
+use Rattle.geometry.specs.Limits.{legal, legalLayout, legalOut, none, beyond}
 use Rattle.geometry.specs.Store.{imageSize, workSize}
 use Rattle.geometry.specs.declared.Geometry.{Geometry}
 
@@ -79,15 +79,17 @@ out-cases N out e = go (or-cases _ _ e)
     go (inl t) = inl (ltb-true out N t)
     go (inr t) = inr (eqb-true out none t)
 
--- what refusal 1 leaves, of a geometry and of a state
-pub within-limits : (g : Geometry) (out : ℕ) → beyond g out ≡ false → Bounds (g .cards) (g .stripes) (g .block) (g .records)
-unfolding beyond
-within-limits g out e =
-    legal-bounds _ _ _ _
-    (and-left (legal (g .cards) (g .stripes) (g .block) (g .records)) (legalOut (g .cards) out) (not-false _ e))
+-- what refusal 1 leaves, of a geometry and the card out
+module _ (g : Geometry) (out : ℕ) (within : beyond g out ≡ false) where
+  pub within-limits : Bounds (g .cards) (g .stripes) (g .block) (g .records)
+  unfolding beyond
+  within-limits =
+      let sizes = legal (g .cards) (g .stripes) (g .block) (g .records) in
+      let placed = legalLayout (g .layout) in
+      legal-bounds _ _ _ _ (and-left sizes placed (and-left (sizes && placed) (legalOut (g .cards) out) (not-false _ within)))
 
-pub within-limits-out : (g : Geometry) (out : ℕ) → beyond g out ≡ false → (out < g .cards) ⊎ (out ≡ none)
-unfolding beyond
-within-limits-out g out e =
-    out-cases (g .cards) out
-    (and-right (legal (g .cards) (g .stripes) (g .block) (g .records)) (legalOut (g .cards) out) (not-false _ e))
+  pub within-limits-out : (out < g .cards) ⊎ (out ≡ none)
+  unfolding beyond
+  within-limits-out =
+      let sizes = legal (g .cards) (g .stripes) (g .block) (g .records) in
+      out-cases (g .cards) out (and-right (sizes && legalLayout (g .layout)) (legalOut (g .cards) out) (not-false _ within))

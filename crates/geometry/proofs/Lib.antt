@@ -1,5 +1,6 @@
 -- The laws of placement and of where blocks stand.
-pub mod Places
+pub mod Level4
+pub mod Level5
 pub mod Placing
 pub mod Turns
 pub mod Answered

@@ -2,19 +2,22 @@
 -- bijection. What follows from that law alone is proved here, for any card and position functions; and the layout of an array is shown to meet it.
 -- No proof above geometry looks into a layout, or uses more of one than stands here; but for examples, which compute.
 --
--- What another layout gives: its definition, a clause of `cardAt` and `positionOf` in specs/Placement; its law, `Placing` of that clause, as proofs/Places
--- has it of the left-symmetric one; and its number, by which these definitions, `placed` below and the code of `card_at` and `missing_at` choose.
+-- What another layout gives: its definition, in specs beside Level4 and Level5; its law, `Placing` of that definition, in proofs beside theirs; and its
+-- number, by which `cardAt` and `positionOf`, `placed` below and the code of `card_of` and `position_of` choose, and which `legalLayout` lets in.
 -- Assumes nothing.
 use Prim.Native.Nat.{ℕ, zero, _≤_, _<_}
 use mathlib.Core.Bool.{Bool, true, false, cond}
 use mathlib.Core.Path.{_≡_, refl, sym, ap, _∙_}
 use native.Mathlib.Omega.{arith}
 use borrow.Author.Tests.{lt-ltb, le-ltb, ltb-true}
-use lib.Dec.{ltb}
+use lib.Dec.{ltb, eqb}
+use Rattle.geometry.specs.Level4.{cardAt4, positionOf4}
+use Rattle.geometry.specs.Level5.{cardAt5, positionOf5}
 use Rattle.geometry.specs.Placement.{cardAt, cardIn, positionOf, missingAt, cardOfPosition, positionOfCard, Missing, outIn}
 use Rattle.geometry.specs.Placing.{Placing}
 use Rattle.geometry.specs.declared.State.{State}
-use Rattle.geometry.proofs.Places.{left-symmetric}
+use Rattle.geometry.proofs.Level4.{unrotated}
+use Rattle.geometry.proofs.Level5.{left-symmetric}
 
 -- ---- of any placement
 
@@ -39,43 +42,55 @@ module _ {N : ℕ} {card position : ℕ → ℕ → ℕ} (placing : Placing N ca
 
 -- ---- of an array's layout
 
--- it is a placement
-pub placed : (N : ℕ) → zero < N → Placing N (cardAt N) (positionOf N)
-placed = left-symmetric
+-- it is a placement, whatever its number
+pub placed : (N layout : ℕ) → zero < N → Placing N (cardAt N layout) (positionOf N layout)
+unfolding cardAt positionOf
+placed N layout some = go (eqb layout 4)
+  where
+    go : (four : Bool) → Placing N (λ s j. cond four (cardAt4 j) (cardAt5 N s j)) (λ s c. cond four (positionOf4 c) (positionOf5 N s c))
+    go true = unrotated N
+    go false = left-symmetric N some
 
-module _ (N s i : ℕ) where
+module _ (N layout s i : ℕ) where
   -- the total forms: at a position or a card, and where there is none
-  pub cardIn-is : i < N → cardIn N s i ≡ cardAt N s i
+  pub cardIn-is : i < N → cardIn N layout s i ≡ cardAt N layout s i
   unfolding cardIn
   cardIn-is h = simp (lt-ltb i N h)
 
-  pub cardIn-none : N ≤ i → cardIn N s i ≡ N
+  pub cardIn-none : N ≤ i → cardIn N layout s i ≡ N
   unfolding cardIn
   cardIn-none h = simp (le-ltb i N h)
 
-  pub missingAt-is : i < N → missingAt N s i ≡ positionOf N s i
+  pub missingAt-is : i < N → missingAt N layout s i ≡ positionOf N layout s i
   unfolding missingAt
   missingAt-is h = simp (lt-ltb i N h)
 
-  pub missingAt-none : N ≤ i → missingAt N s i ≡ N
+  pub missingAt-none : N ≤ i → missingAt N layout s i ≡ N
   unfolding missingAt
   missingAt-none h = simp (le-ltb i N h)
 
 -- of a state: its placement, and the missing position of a stripe, which is its missing card's
 pub placed-in : (st : State) → zero < st .cards → Placing (st .cards) (cardOfPosition st) (positionOfCard st)
-placed-in st = placed (st .cards)
+placed-in st = placed (st .cards) (st .layout)
+
+module _ (st : State) (s c : ℕ) where
+  pub missing-is : c < st .cards → missingAt (st .cards) (st .layout) s c ≡ positionOfCard st s c
+  missing-is = missingAt-is (st .cards) (st .layout) s c
+
+  pub missing-none : st .cards ≤ c → missingAt (st .cards) (st .layout) s c ≡ st .cards
+  missing-none = missingAt-none (st .cards) (st .layout) s c
 
 module _ (st : State) (placing : Placing (st .cards) (cardOfPosition st) (positionOfCard st)) (s p : ℕ) (hp : p < st .cards) where
-  pub out-position : (c : ℕ) → cardOfPosition st s p ≡ c → p ≡ missingAt (st .cards) s c
+  pub out-position : (c : ℕ) → cardOfPosition st s p ≡ c → p ≡ missingAt (st .cards) (st .layout) s c
   unfolding missingAt
   out-position c = card-found placing s c p hp
 
-  pub out-card : (c : ℕ) → p ≡ missingAt (st .cards) s c → cardOfPosition st s p ≡ c
+  pub out-card : (c : ℕ) → p ≡ missingAt (st .cards) (st .layout) s c → cardOfPosition st s p ≡ c
   unfolding missingAt
   out-card c = position-found placing s c p hp
 
-  pub missing-position : Missing st (cardOfPosition st s p) s → p ≡ missingAt (st .cards) s (outIn st s)
+  pub missing-position : Missing st (cardOfPosition st s p) s → p ≡ missingAt (st .cards) (st .layout) s (outIn st s)
   missing-position m = out-position (outIn st s) (m .is-out)
 
-  pub position-missing : p ≡ missingAt (st .cards) s (outIn st s) → Missing st (cardOfPosition st s p) s
+  pub position-missing : p ≡ missingAt (st .cards) (st .layout) s (outIn st s) → Missing st (cardOfPosition st s p) s
   position-missing e = record { is-card = placing .card-below s p hp; is-out = out-card (outIn st s) e }

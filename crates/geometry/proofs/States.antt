@@ -8,7 +8,7 @@ use borrow.Author.Tests.{ltb-true, lt-ltb, eqb-true, eqb-false, eq-eqb, ne-eqb, 
 use lib.Dec.{eqb, ltb}
 use Rattle.terms.proofs.Rows.{and-left, and-right, and-both, or-cases, or-false-left, or-false-right, truth}
 use Rattle.geometry.specs.Fill.{movedOn}
-use Rattle.geometry.specs.Limits.{none, noFill, underWay, legal, legalOut, legalFill, beyond, beyondState, geometryOf}
+use Rattle.geometry.specs.Limits.{none, noFill, underWay, legal, legalLayout, legalOut, legalFill, beyond, beyondState, geometryOf}
 use Rattle.geometry.specs.Report.{withOut, withFill}
 use Rattle.geometry.specs.declared.State.{State}
 use Rattle.geometry.proofs.Asked.{BoundsOf}
@@ -71,7 +71,7 @@ filling-within st e l d = rw (e, lt-ltb (st .fill) (st .stripes) l, ne-eqb (st .
 other-out : (st : State) (c : ℕ) → beyond (geometryOf st) (st .out) ≡ false → legalOut (st .cards) c ≡ true → beyond (geometryOf st) c ≡ false
 unfolding beyond
 other-out st c e l =
-    let whole : Bool = legal (st .cards) (st .stripes) (st .block) (st .records) in
+    let whole : Bool = legal (st .cards) (st .stripes) (st .block) (st .records) && legalLayout (st .layout) in
     ap not (and-both whole (legalOut (st .cards) c) (and-left whole (legalOut (st .cards) (st .out)) (not-false _ e)) l)
 
 module _ (st : State) (within : beyondState st ≡ false) where

@@ -1,5 +1,7 @@
 -- The array's limits, placement, and where blocks stand.
 pub mod Limits
+pub mod Level4
+pub mod Level5
 pub mod Placement
 pub mod Placing
 pub mod Answers

@@ -1,4 +1,4 @@
--- Document 01, "The array": the limits of its numbers. Refusal 1 is given where they do not hold.
+-- Document 01, "The array", with the layout of document 02's Q-6: the limits of its numbers. Refusal 1 is given where they do not hold.
 -- Assumes nothing.
 use Prim.Native.Nat.{ℕ, _%_}
 use mathlib.Core.Bool.{Bool, _&&_, _||_, not}
@@ -11,6 +11,10 @@ use Rattle.geometry.specs.declared.State.{State}
 unfoldable pub legal : ℕ → ℕ → ℕ → ℕ → Bool
 legal N S B K = within 3 8 N && within 1 1024 S && (within 16 512 B && eqb (B % 16) 0) && within 1 8 K
 
+-- the layout is 4 or 5
+unfoldable pub legalLayout : ℕ → Bool
+legalLayout layout = within 4 5 layout
+
 -- the number that says that no card is out
 abbrev pub none : ℕ
 none = 255
@@ -19,13 +23,26 @@ none = 255
 unfoldable pub legalOut : ℕ → ℕ → Bool
 legalOut N out = ltb out N || eqb out none
 
--- refusal 1, of a geometry and the card that is out: N, S, B or K is beyond its limits, or the card out is neither below N nor 255
+-- refusal 1, of a geometry and the card that is out: N, S, B, K or the layout is beyond its limits, or the card out is neither below N nor 255
 unfoldable pub beyond : Geometry → ℕ → Bool
-beyond g out = not (legal (g .cards) (g .stripes) (g .block) (g .records) && legalOut (g .cards) out)
+beyond g out = not (legal (g .cards) (g .stripes) (g .block) (g .records) && legalLayout (g .layout) && legalOut (g .cards) out)
 
--- the geometry of a state
+-- a state is a geometry and three marks: the card that is out, the mark of a lost array, and the fill place
 abbrev pub geometryOf : State → Geometry
-geometryOf st = record { cards = st .cards; stripes = st .stripes; block = st .block; records = st .records }
+geometryOf st = record { cards = st .cards; stripes = st .stripes; block = st .block; records = st .records; layout = st .layout }
+
+abbrev pub stateOf : Geometry → ℕ → ℕ → ℕ → State
+stateOf g out lost fill =
+    record {
+      cards = g .cards;
+      stripes = g .stripes;
+      block = g .block;
+      records = g .records;
+      layout = g .layout;
+      out = out;
+      lost = lost;
+      fill = fill;
+    }
 
 -- the number that says that no fill is under way
 abbrev pub noFill : ℕ

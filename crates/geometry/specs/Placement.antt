@@ -1,24 +1,22 @@
--- Document 01, "Placement": the left-symmetric layout of RAID level 5. A position of a stripe is 0 to n-1 for its units and n for its
+-- Document 01, "Placement", with document 02's Q-6: an array's layout, by its number. A position of a stripe is 0 to n-1 for its units and n for its
 -- parity, n = N-1.
 -- Assumes nothing.
 use Prim.Native.Nat.{ℕ, _+_, _-_, _*_, _/_, _%_, _<_}
 use mathlib.Core.Bool.{Bool, cond, _&&_}
 use mathlib.Core.Path.{_≡_}
-use lib.Dec.{ltb}
+use lib.Dec.{ltb, eqb}
+use Rattle.geometry.specs.Level4.{cardAt4, positionOf4}
+use Rattle.geometry.specs.Level5.{cardAt5, positionOf5}
 use Rattle.geometry.specs.Limits.{none, underWay}
 use Rattle.geometry.specs.declared.State.{State}
 
--- stripe s has its parity on card p = N-1-(s mod N)
-unfoldable pub parityCard : ℕ → ℕ → ℕ
-parityCard N s = N - 1 - s % N
-
--- the card of position j of stripe s: unit i is on card (p+1+i) mod N, and position n comes to p
-unfoldable pub cardAt : ℕ → ℕ → ℕ → ℕ
-cardAt N s j = (parityCard N s + 1 + j) % N
+-- the card of position j of stripe s. A number that is no layout's is refused by 1 before anything is placed by it, and counts as 5 here
+unfoldable pub cardAt : ℕ → ℕ → ℕ → ℕ → ℕ
+cardAt N layout s j = cond (eqb layout 4) (cardAt4 j) (cardAt5 N s j)
 
 -- the position of card c in stripe s
-unfoldable pub positionOf : ℕ → ℕ → ℕ → ℕ
-positionOf N s c = (c + s % N) % N
+unfoldable pub positionOf : ℕ → ℕ → ℕ → ℕ → ℕ
+positionOf N layout s c = cond (eqb layout 4) (positionOf4 c) (positionOf5 N s c)
 
 -- logical block L is unit L mod n of stripe L div n
 abbrev pub stripeOf : ℕ → ℕ → ℕ
@@ -28,8 +26,8 @@ abbrev pub unitOf : ℕ → ℕ → ℕ
 unitOf N L = L % (N - 1)
 
 -- the card of logical block L
-abbrev pub cardOf : ℕ → ℕ → ℕ
-cardOf N L = cardAt N (stripeOf N L) (unitOf N L)
+abbrev pub cardOf : ℕ → ℕ → ℕ → ℕ
+cardOf N layout L = cardAt N layout (stripeOf N L) (unitOf N L)
 
 -- the other way: the block number of unit i of stripe s
 abbrev pub blockOf : ℕ → ℕ → ℕ → ℕ
@@ -37,14 +35,14 @@ blockOf N s i = (N - 1) * s + i
 
 -- in an array of this state: the card of position j of stripe s, and the position of card c
 abbrev pub cardOfPosition : State → ℕ → ℕ → ℕ
-cardOfPosition st = cardAt (st .cards)
+cardOfPosition st = cardAt (st .cards) (st .layout)
 
 abbrev pub positionOfCard : State → ℕ → ℕ → ℕ
-positionOfCard st = positionOf (st .cards)
+positionOfCard st = positionOf (st .cards) (st .layout)
 
 -- and the card of logical block L
 abbrev pub cardOfBlock : State → ℕ → ℕ
-cardOfBlock st = cardOf (st .cards)
+cardOfBlock st = cardOf (st .cards) (st .layout)
 
 -- a stripe below the fill place is filled
 unfoldable pub filled : State → ℕ → Bool
@@ -60,9 +58,9 @@ pub record Missing (st : State) (c s : ℕ) : Type 0 where
   pub is-out : c ≡ outIn st s
 
 -- the position of a card in stripe s where it is below N, and N, which is no position, where it is not
-unfoldable pub missingAt : ℕ → ℕ → ℕ → ℕ
-missingAt N s c = cond (ltb c N) (positionOf N s c) N
+unfoldable pub missingAt : ℕ → ℕ → ℕ → ℕ → ℕ
+missingAt N layout s c = cond (ltb c N) (positionOf N layout s c) N
 
 -- the other way round: the card of a position of stripe s where it is one, 0 to n, and N, which is no card, where it is not
-unfoldable pub cardIn : ℕ → ℕ → ℕ → ℕ
-cardIn N s j = cond (ltb j N) (cardAt N s j) N
+unfoldable pub cardIn : ℕ → ℕ → ℕ → ℕ → ℕ
+cardIn N layout s j = cond (ltb j N) (cardAt N layout s j) N

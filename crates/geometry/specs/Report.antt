@@ -6,7 +6,7 @@ use mathlib.Core.List.{List, [], _∷_, _++_}
 use mathlib.Core.Path.{_≡_}
 use lib.Dec.{leb, eqb}
 use Rattle.terms.specs.Reply.{Reply, accepted, refused, Row, row, firstRow, onAccept}
-use Rattle.geometry.specs.Limits.{none, noFill, underWay, beyondState, isLost}
+use Rattle.geometry.specs.Limits.{none, noFill, underWay, beyondState, isLost, geometryOf, stateOf}
 use Rattle.geometry.specs.declared.report.Reported.{Reported}
 use Rattle.geometry.specs.declared.report.Reported.the-variants.{Marked, Refused}
 use Rattle.geometry.specs.declared.State.{State}
@@ -24,42 +24,15 @@ reportRefusal st c = firstRow (stateRows st ++ reportRows st c)
 
 -- the state with card c out, or none
 abbrev pub withOut : State → ℕ → State
-withOut st c =
-    record {
-      cards = st .cards;
-      stripes = st .stripes;
-      block = st .block;
-      records = st .records;
-      out = c;
-      lost = st .lost;
-      fill = st .fill;
-    }
+withOut st c = stateOf (geometryOf st) c (st .lost) (st .fill)
 
 -- the state with the mark of a lost array; the first card stays the card out
 abbrev pub withLost : State → State
-withLost st =
-    record {
-      cards = st .cards;
-      stripes = st .stripes;
-      block = st .block;
-      records = st .records;
-      out = st .out;
-      lost = 1;
-      fill = st .fill;
-    }
+withLost st = stateOf (geometryOf st) (st .out) 1 (st .fill)
 
 -- the state with another fill place
 abbrev pub withFill : State → ℕ → State
-withFill st s =
-    record {
-      cards = st .cards;
-      stripes = st .stripes;
-      block = st .block;
-      records = st .records;
-      out = st .out;
-      lost = st .lost;
-      fill = s;
-    }
+withFill st s = stateOf (geometryOf st) (st .out) (st .lost) s
 
 -- the first card that is reported is out; a fresh card that is reported ends its fill, and is out in all stripes; a second, different one loses the
 -- array

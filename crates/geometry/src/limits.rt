@@ -2,9 +2,14 @@
 // Assumes nothing.
 ghost use mathlib.Core.Path.{_≡_};
 ghost use Rattle.terms.specs.Sets.{within};
-ghost use Rattle.geometry.specs.Limits.{legal, beyond, geometryOf, legalFill, beyondState, isLost};
+ghost use Rattle.geometry.specs.Limits.{legal, legalLayout, beyond, geometryOf, legalFill, beyondState, isLost};
 use crate::Geometry;
 use crate::State;
+
+// The layouts, by their numbers: parity on the last card, and parity rotated.
+pub const LEVEL_4: u64 = 4;
+
+pub const LEVEL_5: u64 = 5;
 
 // The number that says that no card is out.
 pub const NONE: u64 = 255;
@@ -44,6 +49,13 @@ pub fn legal(cards: u64, stripes: u64, block: u64, records: u64) -> bool
     within(1, 8, records)
 }
 
+// Whether there is a layout of this number.
+fn legal_layout(layout: u64) -> bool
+    ensures { λ r. ⌜ r ≡ legalLayout layout ⌝ }
+{
+    within(LEVEL_4, LEVEL_5, layout)
+}
+
 // Whether a fill place is 65,535, or one of S stripes with a card out.
 fn legal_fill(stripes: u64, out: u64, fill: u64) -> bool
     ensures { λ r. ⌜ r ≡ legalFill stripes out fill ⌝ }
@@ -58,11 +70,14 @@ fn legal_fill(stripes: u64, out: u64, fill: u64) -> bool
 }
 
 impl Geometry {
-    // Refusal 1, with the card that is out: whether N, S, B, K or that card is beyond its limits.
+    // Refusal 1, with the card that is out: whether N, S, B, K, the layout or that card is beyond its limits.
     pub fn beyond(self, out: u64) -> bool
         ensures { λ r. ⌜ r ≡ beyond self out ⌝ }
     {
         if !legal(self.cards, self.stripes, self.block, self.records) {
+            return true;
+        }
+        if !legal_layout(self.layout) {
             return true;
         }
         if out < self.cards {
@@ -82,6 +97,7 @@ impl State {
             stripes: self.stripes,
             block: self.block,
             records: self.records,
+            layout: self.layout,
         }
     }
 

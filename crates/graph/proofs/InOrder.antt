@@ -1,9 +1,9 @@
--- A done set is closed where six tests on whole sets hold.
+-- A done set is closed where five tests on whole sets hold.
 -- Assumes nothing.
 use Prim.Native.Nat.{ℕ, _+_, _-_, _*_, _/_, _^_, _≤_, _<_}
 use mathlib.Core.Bool.{Bool, true, false, and-true}
 use mathlib.Core.Logic.{⊎-elim}
-use mathlib.Core.Path.{_≡_, refl, sym, ap, _∙_}
+use mathlib.Core.Path.{_≡_, refl, sym, ap, subst, _∙_}
 use native.Mathlib.Nat.{lt-of-le-of-lt}
 use native.Mathlib.Omega.{arith}
 use borrow.Author.Tests.{eqb-true, eq-eqb, ne-eqb, ltb-true, ltb-false}
@@ -38,10 +38,8 @@ pub bit-written : (n done p : ℕ) → p < n → bit p (written n done) ≡ bit 
 bit-written n done p h =
     bit-and p (done / 2 ^ (n + 2)) (2 ^ n - 1) ∙ rw (bit-full n p h, and-true (bit p (done / 2 ^ (n + 2)))) (bit-shr done (n + 2) p)
 
--- the six tests: no number above 2n+2; only steps of the graph; the exclusive or's and parity's forerunners; a unit's own read in 3; all
--- the reads in 4
+-- the five tests: only steps of the graph; the exclusive or's and parity's forerunners; a unit's own read in 3; all the reads in 4
 pub record InOrder (n g mask x done : ℕ) : Type 0 where
-  pub bound : done < 2 ^ stepNumbers n
   pub subset : bitAnd done (stepSet n g mask x) ≡ done
   pub summed : bit (n + 1) done ≡ true → bitAnd (setOf (n + 1) (reads n g mask x)) done ≡ setOf (n + 1) (reads n g mask x)
   pub parity : bit (2 * n + 2) done ≡ true → bit (n + 1) done ≡ true
@@ -151,7 +149,6 @@ module _ (n g mask x done : ℕ) where
 
     pub in-order : InOrder n g mask x done
     in-order = record {
-      bound = closed-bound n g mask x done c;
       subset =
           subset-intro (stepNumbers n) done (stepSet n g mask x) (closed-bound n g mask x done c)
           (λ k l b. bit-steps n g mask x k ∙ closed-elim n g mask x done k c l b .0);
@@ -161,15 +158,20 @@ module _ (n g mask x done : ℕ) where
       reconstruct = reconstruct-done;
     }
 
+  -- the graph's steps have no number above 2n+2
+  few-steps : InOrder n g mask x done → done < 2 ^ stepNumbers n
+  unfolding stepSet
+  few-steps o = subst (λ (d : ℕ). d < 2 ^ stepNumbers n) (o .subset) (lt-of-le-of-lt (and-le-r done (stepSet n g mask x)) (setOf-bound (stepNumbers n) _))
+
   pub closed-of : InOrder n g mask x done → closed n g mask x done ≡ true
   closed-of o =
-      closed-intro n g mask x done (o .bound)
+      closed-intro n g mask x done (few-steps o)
       (λ k h b. (
         sym (bit-steps n g mask x k) ∙ subset-elim done (stepSet n g mask x) (o .subset) k b,
         cleared-intro n g mask x done (stepOf n k) (λ j l e. before-done o j l k (numbered n k h) b e),
       ))
 
-  -- a test that holds exactly where the six do is the answer
+  -- a test that holds exactly where the five do is the answer
   pub decided : (t : Bool) → (t ≡ true → InOrder n g mask x done) → (InOrder n g mask x done → t ≡ true) → t ≡ closed n g mask x done
   decided t f b = both-ways t (closed n g mask x done) (λ e. closed-of (f e)) (λ e. b (in-order e))
 

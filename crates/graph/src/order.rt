@@ -110,9 +110,6 @@ fn in_order(n: u64, g: u64, mask: u64, x: u64, done: u64, reading: u64, whole: u
     requires { ⌜ (n ≤ 7) × (reading ≡ setOf (n + 1) (reads n g mask x)) × (whole ≡ stepSet n g mask x) ⌝ }
     ensures { λ r. ⌜ r ≡ closed n g mask x done ⌝ }
 {
-    if done >= only(2 * n + 3) {
-        return false;
-    }
     if done & whole != done {
         return false;
     }

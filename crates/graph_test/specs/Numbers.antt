@@ -1,4 +1,4 @@
--- A state, a record and a table as lists of numbers, for tests from outside: a record is eight numbers, in document 01's order.
+-- A state, a record and a table as lists of numbers, for tests from outside: a state and a record are eight numbers each, in document 01's order.
 -- Assumes nothing.
 use Prim.Native.Nat.{ℕ, _+_, _*_, _/_}
 use mathlib.Core.Bool.{cond}
@@ -29,7 +29,7 @@ placeOf xr = 0
 placeOf (wr p) = p
 placeOf nil = 0
 
--- the state of seven numbers, the record of the eight numbers from 8·i on, the table of all whole records
+-- the state of eight numbers, the record of the eight numbers from 8·i on, the table of all whole records
 unfoldable pub stateFrom : List ℕ → State
 stateFrom l =
     record {
@@ -37,9 +37,10 @@ stateFrom l =
       stripes = getD l 1 0;
       block = getD l 2 0;
       records = getD l 3 0;
-      out = getD l 4 0;
-      lost = getD l 5 0;
-      fill = getD l 6 0;
+      layout = getD l 4 0;
+      out = getD l 5 0;
+      lost = getD l 6 0;
+      fill = getD l 7 0;
     }
 
 unfoldable pub recordFrom : List ℕ → ℕ → Record

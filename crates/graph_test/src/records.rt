@@ -1,4 +1,4 @@
-// Tables, as slices of numbers: a state is seven numbers, and zeros where the slice is too short; a record is eight.
+// Tables, as slices of numbers: a state and a record are eight each, and a state has zeros where its slice is too short.
 ghost use mathlib.Core.Path.{_≡_};
 ghost use Prim.Native.Nat.{_+_, _*_, _≤_};
 ghost use lib.ListN.{length, getD};
@@ -26,9 +26,10 @@ fn state(numbers: &[u64]) -> State
         stripes: at(numbers, 1),
         block: at(numbers, 2),
         records: at(numbers, 3),
-        out: at(numbers, 4),
-        lost: at(numbers, 5),
-        fill: at(numbers, 6),
+        layout: at(numbers, 4),
+        out: at(numbers, 5),
+        lost: at(numbers, 6),
+        fill: at(numbers, 7),
     }
 }
 

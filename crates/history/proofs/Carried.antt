@@ -14,8 +14,8 @@ use native.Mathlib.Omega.{arith}
 use lib.ListN.{length}
 use Rattle.terms.proofs.Rows.{truth}
 use Rattle.geometry.proofs.Bounds.{Bounds}
-use Rattle.geometry.proofs.Placing.{missingAt-none}
-use Rattle.geometry.specs.Limits.{none, noFill, geometryOf, beyondState}
+use Rattle.geometry.proofs.Placing.{missing-none}
+use Rattle.geometry.specs.Limits.{none, noFill, geometryOf, stateOf, beyondState}
 use Rattle.geometry.specs.Placement.{outIn}
 use Rattle.geometry.specs.declared.Geometry.{Geometry}
 use Rattle.geometry.specs.declared.State.{State}
@@ -37,11 +37,6 @@ use Rattle.history.proofs.Facts.{bounds, open-fits}
 use Rattle.history.proofs.Invariant.{Matches, Working, Sure, Resting, cellsOf}
 use Rattle.history.proofs.Rows.{rowOf, afterRow}
 use Rattle.record.proofs.SoundTables.{Sound, sound-elim, sound-intro, held-elim, holds-elim}
-
--- a state of a geometry, with these marks
-abbrev pub marks : Geometry → ℕ → ℕ → ℕ → State
-marks g out lost fill =
-    record { cards = g .cards; stripes = g .stripes; block = g .block; records = g .records; out = out; lost = lost; fill = fill }
 
 -- ---- of one stripe: position x was missing and y is now, the same one or none was; and positions but y hold what they held
 
@@ -94,12 +89,12 @@ module _ (w : World) (a : Account) (sure : Sure w a) where
   limits = bounds (sure .right)
 
   -- of this world's geometry
-  module _ (out lost fill : ℕ) (image : List ℕ) (carried : Carried w a (marks (geometryOf (w .state)) out lost fill) image) where
+  module _ (out lost fill : ℕ) (image : List ℕ) (carried : Carried w a (stateOf (geometryOf (w .state)) out lost fill) image) where
     abbrev st : State
     st = w .state
 
     abbrev st′ : State
-    st′ = marks (geometryOf (w .state)) out lost fill
+    st′ = stateOf (geometryOf (w .state)) out lost fill
 
     abbrev n : ℕ
     n = unitsOf st
@@ -108,7 +103,7 @@ module _ (w : World) (a : Account) (sure : Sure w a) where
     moves : (s : ℕ) → (outIn st′ s ≡ outIn st s) ⊎ (outIn st s ≡ none) → (missingIn st′ s ≡ missingIn st s) ⊎ (n < missingIn st s)
     moves s (inl e) = inl (rw e)
     moves s (inr e) =
-        let m : missingIn st s ≡ st .cards = missingAt-none (st .cards) s (outIn st s) (omega (arith, e, limits .cards-high)) in
+        let m : missingIn st s ≡ st .cards = missing-none st s (outIn st s) (omega (arith, e, limits .cards-high)) in
         inr (omega (arith, m, limits .cards-low))
 
     -- an open record's chosen-with card is none, or the one that stays
@@ -234,8 +229,8 @@ module _ (w : World) (a : Account) (sure : Sure w a) where
       → Sure (record { state = st; table = w .table; work = w .work; image = image }) (record { state = book; row = a .row; entry = a .entry })
   carried-sure st image carried =
       subst
-      (λ (g : Geometry). Carried w a (marks g (st .out) (st .lost) (st .fill)) image → (book : State)
-      → Sure (record { state = marks g (st .out) (st .lost) (st .fill); table = w .table; work = w .work; image = image }) (record { state = book; row = a .row; entry = a .entry }))
+      (λ (g : Geometry). Carried w a (stateOf g (st .out) (st .lost) (st .fill)) image → (book : State)
+      → Sure (record { state = stateOf g (st .out) (st .lost) (st .fill); table = w .table; work = w .work; image = image }) (record { state = book; row = a .row; entry = a .entry }))
       (sym (carried .same-geometry)) (sure-now (st .out) (st .lost) (st .fill) image) carried
 
 -- ---- the state alone changes: the geometry is the same, and in each stripe the missing card stays or was none
@@ -246,7 +241,7 @@ pub record Onward (st st′ : State) : Type 0 where
 
 -- the bytes of the positions are the same where the geometry is
 pub same-cells : (st st′ : State) → geometryOf st′ ≡ geometryOf st → (image : List ℕ) (s b p : ℕ) → cellsOf st′ image s b p ≡ cellsOf st image s b p
-same-cells st st′ same image s b p = ap (λ (g : Geometry). cellsOf (marks g none 0 noFill) image s b p) same
+same-cells st st′ same image s b p = ap (λ (g : Geometry). cellsOf (stateOf g none 0 noFill) image s b p) same
 
 pub onward-sure : (w : World) (a : Account) → Sure w a → (st : State) → Onward (w .state) st → beyondState st ≡ false → st .lost ≡ 0 → (book : State)
     → Sure (record { state = st; table = w .table; work = w .work; image = w .image }) (record { state = book; row = a .row; entry = a .entry })

@@ -6,8 +6,10 @@ use Rattle.terms.specs.Reply.{firstRow}
 use Rattle.terms.specs.Sets.{within, bit, allBelow, lowest, xorTo}
 use Rattle.geometry.specs.Answers.{placeRefusal, placeReply, blockAtRefusal, blockAtReply}
 use Rattle.geometry.specs.Fill.{startRows, startRefusal, starting, movedOn}
-use Rattle.geometry.specs.Limits.{legal, legalOut, legalFill, beyond, beyondState}
-use Rattle.geometry.specs.Placement.{parityCard, cardAt, positionOf, filled, outIn, missingAt}
+use Rattle.geometry.specs.Level4.{cardAt4, positionOf4}
+use Rattle.geometry.specs.Level5.{parityCard, cardAt5, positionOf5}
+use Rattle.geometry.specs.Limits.{legal, legalLayout, legalOut, legalFill, beyond, beyondState}
+use Rattle.geometry.specs.Placement.{cardAt, positionOf, filled, outIn, missingAt}
 use Rattle.geometry.specs.Report.{stateRows, reportRows, reportRefusal, marked, reporting}
 use Rattle.geometry.specs.Store.{imageSize, cellAt, workSize, writeAt, readAt, imageWrong, workWrong}
 use Rattle.graph.specs.Choice.{unitOut, unitOutIn, allUnits, chooseRead, chooseWrite, choose}
@@ -39,7 +41,7 @@ unfolding ones onesIn tabulate part put every among changes firstRow within bit 
 words = tt
 
 unfoldable places : Unit {0}
-unfolding placeRefusal placeReply blockAtRefusal blockAtReply legal legalOut legalFill beyond beyondState parityCard cardAt positionOf filled outIn missingAt
+unfolding placeRefusal placeReply blockAtRefusal blockAtReply legal legalLayout legalOut legalFill beyond beyondState cardAt4 positionOf4 parityCard cardAt5 positionOf5 cardAt positionOf filled outIn missingAt
 places = tt
 
 unfoldable stores : Unit {0}

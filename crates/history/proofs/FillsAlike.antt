@@ -12,7 +12,7 @@ use lib.ListN.{length, getD}
 use Rattle.terms.proofs.Lists.{length-tabulate, tabulate-cong}
 use Rattle.terms.proofs.Sets.{xorTo-cong}
 use Rattle.geometry.proofs.Missing.{missing-one, out-started}
-use Rattle.geometry.specs.Limits.{noFill, geometryOf}
+use Rattle.geometry.specs.Limits.{noFill, geometryOf, stateOf}
 use Rattle.geometry.specs.Placement.{Missing, outIn}
 use Rattle.geometry.specs.Report.{withFill}
 use Rattle.geometry.specs.Store.{imageSize}
@@ -22,7 +22,6 @@ use Rattle.parity.specs.Parity.{byteAt}
 use Rattle.parity.specs.Rest.{restOf, restored}
 use Rattle.array.proofs.Frames.{cell-put-length, cell-put-same, cell-put-other}
 use Rattle.history.specs.History.{Decayed}
-use Rattle.history.proofs.Carried.{marks}
 
 module _ (st : State) (image image′ : List ℕ) (same : Decayed st image image′) where
   -- the start of a fill leaves which blocks are missing
@@ -70,7 +69,7 @@ module _ (st : State) (image image′ : List ℕ) (same : Decayed st image image
     -- with marks that leave which card is missing in every other stripe
     module _ (out lost fill : ℕ) where
       abbrev st′ : State
-      st′ = marks (geometryOf st) out lost fill
+      st′ = stateOf (geometryOf st) out lost fill
 
       marked-same : ((t : ℕ) → t < st .stripes → ¬ (t ≡ s) → outIn st′ t ≡ outIn st t) → Decayed st′ (restored st image c s) (restored st image′ c s)
       marked-same stays =
@@ -98,6 +97,6 @@ module _ (st : State) (image image′ : List ℕ) (same : Decayed st image image
         → Decayed st′ (restored st image c s) (restored st image′ c s)
     restored-same st′ e =
         subst
-        (λ (g : Geometry). ((t : ℕ) → t < st .stripes → ¬ (t ≡ s) → outIn (marks g (st′ .out) (st′ .lost) (st′ .fill)) t ≡ outIn st t)
-        → Decayed (marks g (st′ .out) (st′ .lost) (st′ .fill)) (restored st image c s) (restored st image′ c s))
+        (λ (g : Geometry). ((t : ℕ) → t < st .stripes → ¬ (t ≡ s) → outIn (stateOf g (st′ .out) (st′ .lost) (st′ .fill)) t ≡ outIn st t)
+        → Decayed (stateOf g (st′ .out) (st′ .lost) (st′ .fill)) (restored st image c s) (restored st image′ c s))
         (sym e) (marked-same (st′ .out) (st′ .lost) (st′ .fill))

@@ -13,7 +13,7 @@ use Rattle.terms.proofs.Rows.{true≢false}
 use Rattle.geometry.proofs.Bounds.{Bounds, within-limits, within-limits-out}
 use Rattle.geometry.proofs.Missing.{out-still}
 use Rattle.geometry.proofs.States.{still-beyond}
-use Rattle.geometry.proofs.Placing.{placed-in, missingAt-is}
+use Rattle.geometry.proofs.Placing.{placed-in, missing-is}
 use Rattle.geometry.specs.Limits.{none}
 use Rattle.geometry.specs.Placement.{outIn}
 use Rattle.geometry.specs.declared.Geometry.{Geometry}
@@ -57,7 +57,7 @@ module _ (g : Geometry) (out : ℕ) (table : List Record) (work image : List ℕ
         go : (out < g .cards) ⊎ (out ≡ none) → parityByte (g .cards) (g .stripes) (g .block) image s b ≡ 0
         go (inl l) =
             let below : outIn st s < st .cards = rw (out-still st s refl) l in
-            absurd (omega (arith, missingAt-is (st .cards) s (outIn st s) below, placed-in st (omega (arith, bounds .cards-low)) .position-below s (outIn st s) below))
+            absurd (omega (arith, missing-is st s (outIn st s) below, placed-in st (omega (arith, bounds .cards-low)) .position-below s (outIn st s) below))
         go (inr e) =
             right-elim (g .cards) (g .stripes) (g .block) image nothingHeld (not-false _ (rw (eq-eqb out none e) at (tests .parity))) s b hs hb refl
 

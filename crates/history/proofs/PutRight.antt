@@ -16,8 +16,8 @@ use Rattle.terms.specs.Lists.{put}
 use Rattle.terms.specs.Sets.{xorTo}
 use Rattle.block.proofs.Sums.{others}
 use Rattle.geometry.proofs.Bounds.{Bounds}
-use Rattle.geometry.proofs.Placing.{placed-in, missingAt-is, out-position, out-card}
-use Rattle.geometry.specs.Limits.{none, noFill, geometryOf, beyondState}
+use Rattle.geometry.proofs.Placing.{placed-in, missing-is, out-position, out-card}
+use Rattle.geometry.specs.Limits.{none, noFill, geometryOf, stateOf, beyondState}
 use Rattle.geometry.specs.Placement.{cardOfPosition, positionOfCard, Missing, outIn}
 use Rattle.geometry.specs.Placing.{Placing}
 use Rattle.geometry.specs.Store.{cellAt}
@@ -34,7 +34,7 @@ use Rattle.stripe.specs.Group.{sumTo, others as otherOnes}
 use Rattle.stripe.specs.Invariant.{Idle}
 use Rattle.history.specs.Account.{Account}
 use Rattle.history.specs.World.{World}
-use Rattle.history.proofs.Carried.{marks, GoesOn, RestsAnew, carried-sure, same-cells}
+use Rattle.history.proofs.Carried.{GoesOn, RestsAnew, carried-sure, same-cells}
 use Rattle.history.proofs.Facts.{bounds}
 use Rattle.history.proofs.Invariant.{Sure, Resting, cellsOf}
 use Rattle.history.proofs.ReadOff.{rest-byte, rest-size}
@@ -69,7 +69,7 @@ module _ (w : World) (a : Account) (sure : Sure w a) (c t : ℕ) (ht : t < w .st
 
   -- the missing position is the card's
   x-is : x ≡ positionOfCard st t c
-  x-is = rw (← missing .is-out) (missingAt-is N t c (missing .is-card))
+  x-is = rw (← missing .is-out) (missing-is st t c (missing .is-card))
 
   x-below : x < N
   x-below = rw x-is (placing .position-below t c (missing .is-card))
@@ -128,7 +128,7 @@ module _ (w : World) (a : Account) (sure : Sure w a) (c t : ℕ) (ht : t < w .st
       rests-now =
           subst
           (λ (g : Geometry). (b : ℕ) → b < g .block
-          → Idle bytes (unitsOf (marks g none 0 noFill)) (missingIn st′ t) (rowOf (marks g none 0 noFill) (a .row) t b) (cellsOf (marks g none 0 noFill) (filled w c t) t b))
+          → Idle bytes (unitsOf (stateOf g none 0 noFill)) (missingIn st′ t) (rowOf (stateOf g none 0 noFill) (a .row) t b) (cellsOf (stateOf g none 0 noFill) (filled w c t) t b))
           (sym same) (rests idle (missingIn st′ t))
 
       each : (s : ℕ) → s < st .stripes → GoesOn w a st′ (filled w c t) s ⊎ RestsAnew w a st′ (filled w c t) s

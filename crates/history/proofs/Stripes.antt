@@ -18,7 +18,7 @@ use Rattle.block.proofs.Sums.{others, sum-zero-term}
 use Rattle.geometry.proofs.Bounds.{Bounds}
 use Rattle.geometry.specs.Limits.{none}
 use Rattle.geometry.proofs.Missing.{out-none}
-use Rattle.geometry.proofs.Placing.{placed-in, missingAt-none, missing-position, position-missing}
+use Rattle.geometry.proofs.Placing.{placed-in, missing-none, missing-position, position-missing}
 use Rattle.geometry.specs.Placement.{cardOfPosition, positionOfCard, cardOfBlock, Missing, outIn, stripeOf, unitOf, blockOf}
 use Rattle.geometry.specs.Placing.{Placing}
 use Rattle.geometry.specs.declared.State.{State}
@@ -121,7 +121,7 @@ module _ (w : World) (a : Account) (sure : Sure w a) where
         parity-sum N (st .stripes) (st .block) placing (w .image) s b
         ∙ xorTo-cong N (cellsOf st (w .image) s b) (rowOf st (a .row) s b)
         (λ p l. sure .resting s hs idle b hb .holds p (omega arith)
-        (λ e. omega (arith, missingAt-none N s (outIn st s) (omega (arith, out-none st s out, limits .cards-high)))))
+        (λ e. omega (arith, missing-none st s (outIn st s) (omega (arith, out-none st s out, limits .cards-high)))))
         ∙ row-none b hb
 
   -- ---- by block number

@@ -15,9 +15,9 @@ use Rattle.history.specs.World.{World, Event, Engine}
 abbrev pub fill : ℕ → List ℕ
 fill v = replicate 16 v
 
--- an array of N cards, one stripe, blocks of 16 bytes and K records
+-- an array of N cards in layout 5, one stripe, blocks of 16 bytes and K records
 abbrev pub small : ℕ → ℕ → Geometry
-small N K = record { cards = N; stripes = 1; block = 16; records = K }
+small N K = record { cards = N; stripes = 1; block = 16; records = K; layout = 5 }
 
 -- such an array just opened, with a card out or 255, and its account
 unfoldable pub opened : ℕ → ℕ → ℕ → List ℕ → World

@@ -57,11 +57,11 @@ unfoldable pub longest : ℕ → World
 longest u = after play (chosenAfresh u) (step 0 3 ∷ step 0 (5 - u) ∷ step 0 6 ∷ [])
 
 pub record Starred : Type 0 where
-  -- N = 5, S = 5. Block 0: card 0, stripe 0. Block 7: card 2, stripe 1. Block 10: card 0, stripe 2. Card 3, stripe 1: parity
-  pub block-0 : placeReply 5 5 0 ≡ accepted 0 0
-  pub block-7 : placeReply 5 5 7 ≡ accepted 2 1
-  pub block-10 : placeReply 5 5 10 ≡ accepted 0 2
-  pub card-3-stripe-1 : blockAtReply 5 5 3 1 ≡ accepted 1 0
+  -- N = 5, S = 5, layout 5. Block 0: card 0, stripe 0. Block 7: card 2, stripe 1. Block 10: card 0, stripe 2. Card 3, stripe 1: parity
+  pub block-0 : placeReply 5 5 5 0 ≡ accepted 0 0
+  pub block-7 : placeReply 5 5 5 7 ≡ accepted 2 1
+  pub block-10 : placeReply 5 5 5 10 ≡ accepted 0 2
+  pub card-3-stripe-1 : blockAtReply 5 5 5 3 1 ≡ accepted 1 0
   -- none out: m=1 gives graph 3, m=2 gives 4; any unit X out: m=1 holding X gives 4, m=3 without X gives 3
   pub one-unit : Chooses (λ mask. eqb (ones mask) 1) 5 3
   pub two-units : Chooses (λ mask. eqb (ones mask) 2) 5 4

@@ -1,4 +1,4 @@
-// Prints the layout of an array: reads N, one space, S and a newline, and writes a line for each stripe, or `bad`.
+// Prints layout 5 of an array: reads N, one space, S and a newline, and writes a line for each stripe, or `bad`.
 use libc::STDIN_FILENO;
 use libc::STDOUT_FILENO;
 use text::Asked;

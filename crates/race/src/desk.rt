@@ -147,7 +147,7 @@ impl Desk {
     // Tells what step k of record i is.
     pub(crate) fn name(self, i: u64, k: u64) {
         let state = self.state;
-        told::step_name(state.cards, self.record(i).stripe, k);
+        told::step_name(state.cards, state.layout, self.record(i).stripe, k);
     }
 
     // Takes step k of record i, and tells what came of it where it is aloud.

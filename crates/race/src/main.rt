@@ -3,6 +3,7 @@
 use bytes::touches_from;
 use desk::Desk;
 use geometry::Geometry;
+use geometry::LEVEL_5;
 use geometry::NONE;
 
 mod bytes;
@@ -18,6 +19,7 @@ fn shape() -> Geometry {
         stripes: 5,
         block: 16,
         records: 2,
+        layout: LEVEL_5,
     }
 }
 

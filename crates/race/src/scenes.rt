@@ -21,7 +21,7 @@ fn only(block: u64) -> u64 {
 // The card of a block.
 fn card_of(desk: Desk, block: u64) -> u64 {
     let state = desk.state;
-    geometry::card_at(state.cards, block / 4, block % 4)
+    geometry::card_at(state.cards, state.layout, block / 4, block % 4)
 }
 
 // Takes the lowest ready step of record i, again and again while it is open, at most so many times.

@@ -80,7 +80,7 @@ fn moved(unit: u64, parity: u64, n: u64, p: u64, card: u64) {
 }
 
 // What step k of a request on a stripe does, and on which card.
-pub(crate) fn step_name(cards: u64, stripe: u64, k: u64) {
+pub(crate) fn step_name(cards: u64, layout: u64, stripe: u64, k: u64) {
     say(script::STEP, k, 0, 0, 0);
     if cards == 0 {
         return;
@@ -92,7 +92,7 @@ pub(crate) fn step_name(cards: u64, stripe: u64, k: u64) {
             script::READ_PARITY,
             n,
             p,
-            geometry::card_at(cards, stripe, p),
+            geometry::card_at(cards, layout, stripe, p),
         ),
         Action::Sum => tell(script::SUM),
         Action::Write(p) => moved(
@@ -100,7 +100,7 @@ pub(crate) fn step_name(cards: u64, stripe: u64, k: u64) {
             script::WRITE_PARITY,
             n,
             p,
-            geometry::card_at(cards, stripe, p),
+            geometry::card_at(cards, layout, stripe, p),
         ),
         Action::Nothing => {}
     }

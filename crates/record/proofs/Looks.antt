@@ -30,13 +30,13 @@ module _ (st : State) (r : Record) where
       go true = refl
       go false = refl
 
-  -- soundness, and what is found, depend on the cards, the stripes and the card that is missing in the record's stripe
-  as-seen : soundRecordIn (seenAs (st .cards) (st .stripes) (outIn st (r .stripe))) r ≡ soundRecordIn st r
+  -- soundness, and what is found, depend on the cards, the stripes, the layout and the card that is missing in the record's stripe
+  as-seen : soundRecordIn (seenAs (st .cards) (st .stripes) (st .layout) (outIn st (r .stripe))) r ≡ soundRecordIn st r
   unfolding soundRecordIn soundRecord legalRecord legalChosen rightGraph rightSteps rightCount lacksNone outIn filled
   as-seen = refl
 
   pub busy-by : (now out : ℕ) → now ≡ outIn st (r .stripe)
-      → cond (soundRecordIn (seenAs (st .cards) (st .stripes) now) r) (found (seenAs (st .cards) (st .stripes) now) r out) (nothing false)
+      → cond (soundRecordIn (seenAs (st .cards) (st .stripes) (st .layout) now) r) (found (seenAs (st .cards) (st .stripes) (st .layout) now) r out) (nothing false)
       ≡ cond (soundRecordIn st r) (found st r out) (nothing false)
   unfolding found
   busy-by now out e = rw e (ap (λ (b : Bool). cond b (found st r out) (nothing false)) as-seen)

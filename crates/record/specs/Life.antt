@@ -37,11 +37,11 @@ unitsOf st = st .cards - 1
 
 -- the position that was missing when the record's graph was chosen; N where none was
 abbrev pub chosenAt : State → Record → ℕ
-chosenAt st r = missingAt (st .cards) (r .stripe) (r .chosen)
+chosenAt st r = missingAt (st .cards) (st .layout) (r .stripe) (r .chosen)
 
 -- the position that is missing in a stripe now; N where none is
 abbrev pub missingIn : State → ℕ → ℕ
-missingIn st s = missingAt (st .cards) s (outIn st s)
+missingIn st s = missingAt (st .cards) (st .layout) s (outIn st s)
 
 -- a request of a stripe and a mask at admission: open, its graph chosen, no step done and a count of 0
 unfoldable pub admitted : State → Bool → ℕ → ℕ → Record

@@ -4,7 +4,7 @@ use Prim.Native.Nat.{ℕ, _+_}
 use mathlib.Core.Bool.{Bool, true, cond, not, _&&_}
 use Rattle.terms.specs.Sets.{bit, setOf}
 use lib.Dec.{ltb}
-use Rattle.geometry.specs.Limits.{noFill}
+use Rattle.geometry.specs.Limits.{noFill, stateOf}
 use Rattle.geometry.specs.Placement.{outIn}
 use Rattle.geometry.specs.declared.State.{State}
 use Rattle.graph.specs.Asked.{stepSet, partOf}
@@ -16,9 +16,10 @@ use Rattle.record.specs.Life.{isFree, isWrite, unitsOf, chosenAt, missin
 use Rattle.record.specs.declared.Look.{Look}
 use Rattle.record.specs.declared.Record.{Record}
 
--- what a record's soundness depends on: so many cards and stripes, and the card that is missing in its stripe; as a state in which that card is out
-abbrev pub seenAs : ℕ → ℕ → ℕ → State
-seenAs N S now = record { cards = N; stripes = S; block = 0; records = 0; out = now; lost = 0; fill = noFill }
+-- what a record's soundness depends on: so many cards and stripes, the layout, and the card that is missing in its stripe; as a state in which that
+-- card is out
+abbrev pub seenAs : ℕ → ℕ → ℕ → ℕ → State
+seenAs N S layout now = stateOf (record { cards = N; stripes = S; block = 0; records = 0; layout = layout }) now 0 noFill
 
 -- of a sound record: the position that was missing when its graph was chosen, the one that is missing now, the graph's steps, what it reads
 unfoldable pub found : State → Record → ℕ → Look

@@ -73,7 +73,7 @@ impl Record {
     pub fn chosen_at(self, state: State) -> u64
         ensures { λ r. ⌜ r ≡ chosenAt state self ⌝ }
     {
-        geometry::missing_at(state.cards, self.stripe, self.chosen)
+        geometry::missing_at(state.cards, state.layout, self.stripe, self.chosen)
     }
 
     // Step k is ready.

@@ -77,7 +77,7 @@ impl Record {
 
     // Open or finished, with a legal kind, stripe, mask and graph, in an array of so many cards and stripes.
     fn is_legal(self, cards: u64, stripes: u64) -> bool
-        ensures { λ r. ⌜ r ≡ legalRecord (seenAs cards stripes 0) self ⌝ }
+        ensures { λ r. ⌜ r ≡ legalRecord (seenAs cards stripes 0 0) self ⌝ }
     {
         if self.phase == 0 {
             return false;
@@ -102,7 +102,7 @@ impl Record {
 
     // Its chosen-with card is 255; or, of an open one, the card that is missing in its stripe now, and of a finished one any card.
     fn legal_chosen(self, cards: u64, now: u64) -> bool
-        ensures { λ r. ⌜ r ≡ legalChosen (seenAs cards 0 now) self ⌝ }
+        ensures { λ r. ⌜ r ≡ legalChosen (seenAs cards 0 0 now) self ⌝ }
     {
         if self.chosen == NONE {
             return true;
@@ -123,11 +123,11 @@ impl Record {
         self.all_zero()
     }
 
-    // What is found of a record that is not free, in an array of so many cards and stripes; now is the card that is missing in its stripe, x the
-    // position that was missing at its choice, and out is handed on. It takes numbers: a state by value would be copied for each record.
-    fn looked(self, cards: u64, stripes: u64, now: u64, x: u64, out: u64) -> Look
-        requires { ⌜ (isFree self ≡ false) × (x ≡ chosenAt (seenAs cards stripes now) self) ⌝ }
-        ensures { λ r. ⌜ r ≡ cond (soundRecordIn (seenAs cards stripes now) self) (found (seenAs cards stripes now) self out) (nothing false) ⌝ }
+    // What is found of a record that is not free, in an array of so many cards and stripes and this layout; now is the card that is missing in its
+    // stripe, x the position that was missing at its choice, and out is handed on. It takes numbers: a state by value would be copied for each record.
+    fn looked(self, cards: u64, stripes: u64, layout: u64, now: u64, x: u64, out: u64) -> Look
+        requires { ⌜ (isFree self ≡ false) × (x ≡ chosenAt (seenAs cards stripes layout now) self) ⌝ }
+        ensures { λ r. ⌜ r ≡ cond (soundRecordIn (seenAs cards stripes layout now) self) (found (seenAs cards stripes layout now) self out) (nothing false) ⌝ }
     {
         let n = units_of(cards);
         if n > 7 {
@@ -167,19 +167,19 @@ impl Record {
         }
         let now = state.out_in(self.stripe);
         let x = self.chosen_at(state);
-        let look = self.looked(state.cards, state.stripes, now, x, 0);
+        let look = self.looked(state.cards, state.stripes, state.layout, now, x, 0);
         look.sound
     }
 
     // The position of the card that is missing now, where x is that of the one at the choice.
-    fn missing_now(self, cards: u64, now: u64, x: u64) -> u64
-        requires { ⌜ x ≡ missingAt cards (self .stripe) (self .chosen) ⌝ }
-        ensures { λ r. ⌜ r ≡ missingAt cards (self .stripe) now ⌝ }
+    fn missing_now(self, cards: u64, layout: u64, now: u64, x: u64) -> u64
+        requires { ⌜ x ≡ missingAt cards layout (self .stripe) (self .chosen) ⌝ }
+        ensures { λ r. ⌜ r ≡ missingAt cards layout (self .stripe) now ⌝ }
     {
         if self.chosen == now {
             return x;
         }
-        missing_at(cards, self.stripe, now)
+        missing_at(cards, layout, self.stripe, now)
     }
 
     // What one look at the record finds.
@@ -191,7 +191,7 @@ impl Record {
         }
         let now = state.out_in(self.stripe);
         let x = self.chosen_at(state);
-        let out = self.missing_now(state.cards, now, x);
-        self.looked(state.cards, state.stripes, now, x, out)
+        let out = self.missing_now(state.cards, state.layout, now, x);
+        self.looked(state.cards, state.stripes, state.layout, now, x, out)
     }
 }

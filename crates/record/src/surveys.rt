@@ -1,6 +1,6 @@
 // The survey of a table: made record by record, and asked for a stripe.
 ghost use mathlib.Core.Bool.{cond, not, _&&_};
-ghost use lib.Dec.{eqb};
+ghost use lib.Dec.{ltb, eqb};
 ghost use mathlib.Core.Path.{_≡_};
 ghost use Prim.Native.Nat.{_≤_, _<_};
 ghost use lib.ListN.{set};
@@ -11,7 +11,6 @@ ghost use Rattle.record.specs.Sound.{allZero};
 ghost use Rattle.record.specs.Survey.{heldIn};
 use crate::Record;
 use crate::Survey;
-use crate::life::free;
 use geometry::NO_STRIPE;
 use geometry::State;
 
@@ -170,12 +169,33 @@ impl Survey {
         }
     }
 
+    // The survey after a record at i that is left out: it counts as a free one, and is not looked at. As it was where there is no such place.
+    fn left_out(self, i: u64) -> Survey
+        ensures { λ v. ⌜ v ≡ cond (ltb i 8) (record { len = self .len; sound = self .sound; held = self .held; free = cond (eqb (self .free) (self .len)) i (self .free) }) self ⌝ }
+    {
+        let held = self.held;
+        if i > 7 {
+            return Survey {
+                len: self.len,
+                sound: self.sound,
+                held,
+                free: self.free,
+            };
+        }
+        Survey {
+            len: self.len,
+            sound: self.sound,
+            held,
+            free: self.first_free(i),
+        }
+    }
+
     // The survey after record r at i, which is left out where i is this place.
     pub fn seen_but(self, state: State, i: u64, r: Record, but: u64) -> Survey
         ensures { λ v. ⌜ v ≡ seen state self i (cond (eqb i but) free r) ⌝ }
     {
         if i == but {
-            return self.seen(state, i, free());
+            return self.left_out(i);
         }
         self.seen(state, i, r)
     }

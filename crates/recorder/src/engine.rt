@@ -49,15 +49,17 @@ pub extern "C" fn coppicetune_open(
     stripes: u64,
     block: u64,
     records: u64,
+    layout: u64,
     out: u64,
 ) -> u64
-    ensures { λ r. ⌜ OpeningPacked (opening (record { cards = cards; stripes = stripes; block = block; records = records }) out (now (table .entry)) (now (work .entry)) (now (image .entry))) (now (state .entry)) r (now (state .exit)) (now (table .exit)) ⌝ }
+    ensures { λ r. ⌜ OpeningPacked (opening (record { cards = cards; stripes = stripes; block = block; records = records; layout = layout }) out (now (table .entry)) (now (work .entry)) (now (image .entry))) (now (state .entry)) r (now (state .exit)) (now (table .exit)) ⌝ }
 {
     let geometry = Geometry {
         cards,
         stripes,
         block,
         records,
+        layout,
     };
     let old = *state;
     let made = calls::open(geometry, out, table, work, image);

@@ -17,10 +17,10 @@ mod packing;
 
 // The card and the stripe of a block.
 #[no_mangle]
-pub extern "C" fn coppicetune_place(cards: u64, stripes: u64, block: u64) -> u64
-    ensures { λ r. ⌜ r ≡ packed (placeReply cards stripes block) ⌝ }
+pub extern "C" fn coppicetune_place(cards: u64, stripes: u64, layout: u64, block: u64) -> u64
+    ensures { λ r. ⌜ r ≡ packed (placeReply cards stripes layout block) ⌝ }
 {
-    let placed = Geometry::places(cards, stripes).place(block);
+    let placed = Geometry::places(cards, stripes, layout).place(block);
     match placed {
         Placed::At { card, stripe } => pack(0, card, stripe),
         Placed::Beyond => pack(1, 0, 0),
@@ -30,10 +30,16 @@ pub extern "C" fn coppicetune_place(cards: u64, stripes: u64, block: u64) -> u64
 
 // What a card holds in a stripe: 0 and the block's number, or 1 for parity.
 #[no_mangle]
-pub extern "C" fn coppicetune_block_at(cards: u64, stripes: u64, card: u64, stripe: u64) -> u64
-    ensures { λ r. ⌜ r ≡ packed (blockAtReply cards stripes card stripe) ⌝ }
+pub extern "C" fn coppicetune_block_at(
+    cards: u64,
+    stripes: u64,
+    layout: u64,
+    card: u64,
+    stripe: u64,
+) -> u64
+    ensures { λ r. ⌜ r ≡ packed (blockAtReply cards stripes layout card stripe) ⌝ }
 {
-    let held = Geometry::places(cards, stripes).block_at(card, stripe);
+    let held = Geometry::places(cards, stripes, layout).block_at(card, stripe);
     match held {
         Held::Block(number) => pack(0, 0, number),
         Held::Parity => pack(0, 1, 0),
@@ -49,18 +55,20 @@ pub extern "C" fn coppicetune_scan(
     stripes: u64,
     block: u64,
     records: u64,
+    layout: u64,
     out: u64,
     lost: u64,
     fill: u64,
     image: &[u8],
 ) -> u64
-    ensures { λ r. ⌜ r ≡ packed (idleScanReply (record { cards = cards; stripes = stripes; block = block; records = records; out = out; lost = lost; fill = fill }) (now (image .entry))) ⌝ }
+    ensures { λ r. ⌜ r ≡ packed (idleScanReply (record { cards = cards; stripes = stripes; block = block; records = records; layout = layout; out = out; lost = lost; fill = fill }) (now (image .entry))) ⌝ }
 {
     let state = State {
         cards,
         stripes,
         block,
         records,
+        layout,
         out,
         lost,
         fill,

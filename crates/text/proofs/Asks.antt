@@ -32,11 +32,11 @@ input-injective N S M R h g e =
     )
 
 -- an input asks for a shape where the shape is within the limits and the input is its text
-pub asks-true : (l : List ℕ) (N S : ℕ) → asksFor l N S ≡ true → (beyondPlaces N S ≡ false) × (l ≡ inputText N S)
+pub asks-true : (l : List ℕ) (N S : ℕ) → asksFor l N S ≡ true → (beyondPlaces N S 5 ≡ false) × (l ≡ inputText N S)
 unfolding asksFor
-asks-true l N S e = (not-true _ (and-left _ (same l (inputText N S)) e), same-true _ _ (and-right (not (beyondPlaces N S)) _ e))
+asks-true l N S e = (not-true _ (and-left _ (same l (inputText N S)) e), same-true _ _ (and-right (not (beyondPlaces N S 5)) _ e))
 
-pub asks-text : (l : List ℕ) (N S : ℕ) → beyondPlaces N S ≡ false → l ≡ inputText N S → asksFor l N S ≡ true
+pub asks-text : (l : List ℕ) (N S : ℕ) → beyondPlaces N S 5 ≡ false → l ≡ inputText N S → asksFor l N S ≡ true
 unfolding asksFor
 asks-text l N S e t = and-both _ _ (ap not e) (rw t (same-self (inputText N S)))
 
@@ -45,8 +45,8 @@ pub asks-once : (l : List ℕ) (N S M R : ℕ) → asksFor l N S ≡ true → as
 asks-once l N S M R h g =
     let (n, s) = asks-true l N S h in
     let (m, r) = asks-true l M R g in
-    let b = places-bounds N S n in
-    let d = places-bounds M R m in
+    let b = places-bounds N S 5 n in
+    let d = places-bounds M R 5 m in
     input-injective N S M R (omega arith) (omega arith) (sym s ∙ r)
 
 -- the stripes that it asks for with N cards
@@ -57,7 +57,7 @@ stripes-none l N none = lowest-none 1025 (λ S. asksFor l N S) (λ S h. never _ 
 stripes-is : (l : List ℕ) (N S : ℕ) → asksFor l N S ≡ true → stripesIn l N ≡ S
 unfolding stripesIn
 stripes-is l N S h =
-    let b = places-bounds N S (asks-true l N S h .0) in
+    let b = places-bounds N S 5 (asks-true l N S h .0) in
     lowest-is 1025 (λ R. asksFor l N R) S (omega arith) h (λ R less. never _ (λ g. let e = asks-once l N S N R h g in omega arith))
 
 -- the cards that it asks for
@@ -68,7 +68,7 @@ cards-none l none = lowest-none 9 (λ N. ltb (stripesIn l N) 1025) (λ N h. le-l
 cards-is : (l : List ℕ) (N S : ℕ) → asksFor l N S ≡ true → cardsIn l ≡ N
 unfolding cardsIn
 cards-is l N S h =
-    let b = places-bounds N S (asks-true l N S h .0) in
+    let b = places-bounds N S 5 (asks-true l N S h .0) in
     lowest-is 9 (λ M. ltb (stripesIn l M) 1025) N (omega arith) (lt-ltb (stripesIn l N) 1025 (omega (arith, stripes-is l N S h)))
     (λ M less. le-ltb (stripesIn l M) 1025 (omega (arith, stripes-none l M (λ R g. let e = asks-once l N S M R h g in omega arith))))
 
@@ -81,7 +81,7 @@ asked-none l none = rw (cards-none l none)
 pub asked-shape : (l : List ℕ) (N S : ℕ) → asksFor l N S ≡ true → asked l ≡ Shape N S
 unfolding asked
 asked-shape l N S h =
-    let b = places-bounds N S (asks-true l N S h .0) in
+    let b = places-bounds N S 5 (asks-true l N S h .0) in
     let few : N < 9 = omega arith in
     rw (cards-is l N S h, stripes-is l N S h, lt-ltb N 9)
 
@@ -113,5 +113,5 @@ shape-asked l N S e = ⊎-elim some none (truth (ltb (cardsIn l) 9))
         absurd (omega arith)
 
 -- the answer is a shape exactly where the shape is within the limits and the input is its text
-pub asked-exactly : (l : List ℕ) (N S : ℕ) → (asked l ≡ Shape N S) ↔ ((beyondPlaces N S ≡ false) × (l ≡ inputText N S))
+pub asked-exactly : (l : List ℕ) (N S : ℕ) → (asked l ≡ Shape N S) ↔ ((beyondPlaces N S 5 ≡ false) × (l ≡ inputText N S))
 asked-exactly l N S = ((λ e. asks-true l N S (shape-asked l N S e)), (λ h. asked-shape l N S (asks-text l N S (h .0) (h .1))))

@@ -52,30 +52,30 @@ pub upto-none : (N s at : ℕ) (l : List ℕ) → Upto N s at l 0 at l
 unfolding cardsText
 upto-none N s at l = record { few = omega arith; place = omega arith; text = sym (put-nothing l at) }
 
-module _ (N S s : ℕ) (legal : beyondPlaces N S ≡ false) (below : s < S) where
+module _ (N S s : ℕ) (legal : beyondPlaces N S 5 ≡ false) (below : s < S) where
   -- what placement answers of a card is what the card shows
-  pub held-shown : (c : ℕ) → c < N → (h : Held) → heldReply h ≡ blockAtReply N S c s → heldText h ≡ shown N s c
+  pub held-shown : (c : ℕ) → c < N → (h : Held) → heldReply h ≡ blockAtReply N S 5 c s → heldText h ≡ shown N s c
   unfolding shown
-  held-shown c less h e = ⊎-elim parity block (truth (eqb (positionOf N s c) (N - 1)))
+  held-shown c less h e = ⊎-elim parity block (truth (eqb (positionOf N 5 s c) (N - 1)))
     where
-      parity : eqb (positionOf N s c) (N - 1) ≡ true → heldText h ≡ shown N s c
-      parity t = rw t (shown-parity h (e ∙ block-at-parity N S c s legal less below (eqb-true _ _ t)))
+      parity : eqb (positionOf N 5 s c) (N - 1) ≡ true → heldText h ≡ shown N s c
+      parity t = rw t (shown-parity h (e ∙ block-at-parity N S 5 c s legal less below (eqb-true _ _ t)))
 
-      block : eqb (positionOf N s c) (N - 1) ≡ false → heldText h ≡ shown N s c
-      block t = rw t (shown-block h _ (e ∙ block-at-found N S c s legal less below (eqb-false _ _ t)))
+      block : eqb (positionOf N 5 s c) (N - 1) ≡ false → heldText h ≡ shown N s c
+      block t = rw t (shown-block h _ (e ∙ block-at-found N S 5 c s legal less below (eqb-false _ _ t)))
 
   -- which is P or at most four digits
   shown-size : (c : ℕ) → c < N → length (shown N s c) ≤ 4
   unfolding shown
-  shown-size c less = ⊎-elim parity block (truth (eqb (positionOf N s c) (N - 1)))
+  shown-size c less = ⊎-elim parity block (truth (eqb (positionOf N 5 s c) (N - 1)))
     where
-      parity : eqb (positionOf N s c) (N - 1) ≡ true → length (shown N s c) ≤ 4
+      parity : eqb (positionOf N 5 s c) (N - 1) ≡ true → length (shown N s c) ≤ 4
       parity t = rw t (omega arith)
 
-      block : eqb (positionOf N s c) (N - 1) ≡ false → length (shown N s c) ≤ 4
+      block : eqb (positionOf N 5 s c) (N - 1) ≡ false → length (shown N s c) ≤ 4
       block t =
-          let b = places-bounds N S legal in
-          rw t (decimal-length (blockOf N s (positionOf N s c)) 3 (omega (arith, placed N (omega arith) .position-below s c less, blocks-few N S legal s (omega arith))))
+          let b = places-bounds N S 5 legal in
+          rw t (decimal-length (blockOf N s (positionOf N 5 s c)) 3 (omega (arith, placed N 5 (omega arith) .position-below s c less, blocks-few N S 5 legal s (omega arith))))
 
   -- k cards take at most five bytes each
   pub cards-size : (k : ℕ) → k ≤ N → length (cardsText N s k) ≤ 5 * k
@@ -93,11 +93,11 @@ module _ (N S s : ℕ) (legal : beyondPlaces N S ≡ false) (below : s < S) wher
     upto-room less = omega (arith, u .place, cards-size k (u .few), upto-length)
 
     -- the card's text, as placement answers it, fits behind a space
-    pub upto-fits : k < N → (h : Held) → heldReply h ≡ blockAtReply N S k s → end + 1 + length (heldText h) ≤ length (set out end space)
+    pub upto-fits : k < N → (h : Held) → heldReply h ≡ blockAtReply N S 5 k s → end + 1 + length (heldText h) ≤ length (set out end space)
     upto-fits less h e = simp length-set (omega (arith, upto-room less, ap length (held-shown k less h e), shown-size k less))
 
     -- and is put there
-    pub upto-next : k < N → (h : Held) {r : ℕ} {out′ : List ℕ} → heldReply h ≡ blockAtReply N S k s → r ≡ end + 1 + length (heldText h)
+    pub upto-next : k < N → (h : Held) {r : ℕ} {out′ : List ℕ} → heldReply h ≡ blockAtReply N S 5 k s → r ≡ end + 1 + length (heldText h)
         → out′ ≡ put (end + 1) (heldText h) (set out end space) → Upto N s at l (k + 1) r out′
     unfolding cardsText
     upto-next less h e p q =
@@ -123,11 +123,11 @@ module _ (N S s : ℕ) (legal : beyondPlaces N S ≡ false) (below : s < S) wher
 
   -- the stripe has at most four digits
   pub stripe-size : length (decimal s) ≤ 4
-  stripe-size = let b = places-bounds N S legal in decimal-length s 3 (omega arith)
+  stripe-size = let b = places-bounds N S 5 legal in decimal-length s 3 (omega arith)
 
   -- the stripe and the cards leave room for the newline
   pub line-short : length (decimal s) + length (cardsText N s N) < lineRoom
-  line-short = let b = places-bounds N S legal in omega (arith, stripe-size, cards-size N (omega arith))
+  line-short = let b = places-bounds N S 5 legal in omega (arith, stripe-size, cards-size N (omega arith))
 
   -- the line is what is written where there is room
   written-line : (room : ℕ) → lineRoom ≤ room → written N S s room ≡ lineText N s
@@ -163,11 +163,11 @@ pub written-small : (N S s room : ℕ) → room < lineRoom → written N S s roo
 unfolding written
 written-small N S s room h = simp (lt-ltb room lineRoom h)
 
-pub written-beyond : (N S s room : ℕ) → lineRoom ≤ room → beyondPlaces N S ≡ true → written N S s room ≡ []
+pub written-beyond : (N S s room : ℕ) → lineRoom ≤ room → beyondPlaces N S 5 ≡ true → written N S s room ≡ []
 unfolding written
 written-beyond N S s room h e = simp (le-ltb room lineRoom h, e)
 
-pub written-range : (N S s room : ℕ) → lineRoom ≤ room → beyondPlaces N S ≡ false → S ≤ s → written N S s room ≡ []
+pub written-range : (N S s room : ℕ) → lineRoom ≤ room → beyondPlaces N S 5 ≡ false → S ≤ s → written N S s room ≡ []
 unfolding written
 written-range N S s room h e g = simp (le-ltb room lineRoom h, e, le-leb S s g)
 
@@ -178,12 +178,12 @@ nothing t l e = (sym (ap length e), sym (put-nothing l 0) ∙ ap (λ (u : List �
 -- what is written fits in the room
 pub written-fits : (N S s room : ℕ) → length (written N S s room) ≤ room
 unfolding written
-written-fits N S s room = ⊎-elim (λ t. rw t (omega arith)) line (truth (ltb room lineRoom || (beyondPlaces N S || leb S s)))
+written-fits N S s room = ⊎-elim (λ t. rw t (omega arith)) line (truth (ltb room lineRoom || (beyondPlaces N S 5 || leb S s)))
   where
-    line : (ltb room lineRoom || (beyondPlaces N S || leb S s)) ≡ false → length (written N S s room) ≤ room
+    line : (ltb room lineRoom || (beyondPlaces N S 5 || leb S s)) ≡ false → length (written N S s room) ≤ room
     line t =
-        let rest = or-false-right (ltb room lineRoom) (beyondPlaces N S || leb S s) t in
-        let legal = or-false-left (beyondPlaces N S) (leb S s) rest in
-        let below = leb-false S s (or-false-right (beyondPlaces N S) (leb S s) rest) in
-        let large = ltb-false room lineRoom (or-false-left (ltb room lineRoom) (beyondPlaces N S || leb S s) t) in
+        let rest = or-false-right (ltb room lineRoom) (beyondPlaces N S 5 || leb S s) t in
+        let legal = or-false-left (beyondPlaces N S 5) (leb S s) rest in
+        let below = leb-false S s (or-false-right (beyondPlaces N S 5) (leb S s) rest) in
+        let large = ltb-false room lineRoom (or-false-left (ltb room lineRoom) (beyondPlaces N S 5 || leb S s) t) in
         omega (arith, ap length (written-line N S s legal below room large), line-size N S s legal below, line-short N S s legal below)

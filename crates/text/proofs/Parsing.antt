@@ -46,12 +46,12 @@ module _ (l : List ℕ) where
     second : getD l 1 0 ≡ space
     between : middle ≡ decimal S
     last : getD l (length l - 1) 0 ≡ newline
-    legal : beyondPlaces N S ≡ false
+    legal : beyondPlaces N S 5 ≡ false
 
   known : (N S : ℕ) → asksFor l N S ≡ true → Known N S
   known N S h =
       let (legal, text) = asks-true l N S h in
-      let b = places-bounds N S legal in
+      let b = places-bounds N S 5 legal in
       let bytes : l ≡ digit N ∷ space ∷ decimal S ++ (newline ∷ []) = text ∙ input-bytes N S (omega arith) in
       let long : length l ≡ 2 + (length (decimal S) + 1) = ap length bytes ∙ ap (λ (k : ℕ). suc (suc k)) (length-append (decimal S) (newline ∷ [])) ∙ omega arith in
       let before : length l - 1 ≡ length (digit N ∷ space ∷ decimal S) = omega arith in
@@ -79,22 +79,22 @@ module _ (l : List ℕ) where
   pub bad-end : ¬ (getD l (length l - 1) 0 ≡ newline) → asked l ≡ Bad
   bad-end h = asked-none l λ N S a. h (known N S a .last)
 
-  pub bad-limits : (N S : ℕ) → Reads (take 1 l) N → Reads middle S → beyondPlaces N S ≡ true → asked l ≡ Bad
+  pub bad-limits : (N S : ℕ) → Reads (take 1 l) N → Reads middle S → beyondPlaces N S 5 ≡ true → asked l ≡ Bad
   bad-limits N S n s h = asked-none l go
     where
       go : (M R : ℕ) → asksFor l M R ≡ true → ⊥
       go M R a =
           let k = known M R a in
-          let b = places-bounds M R (k .legal) in
+          let b = places-bounds M R 5 (k .legal) in
           let e = n .only M (omega arith) (omega arith) (k .first) in
           let f = s .only R (omega arith) (omega arith) (k .between) in
           true≢false (sym h ∙ (cc (k .legal)))
 
   pub good : (N S : ℕ) → 4 ≤ length l → getD l 1 0 ≡ space → getD l (length l - 1) 0 ≡ newline → Reads (take 1 l) N → Reads middle S
-      → beyondPlaces N S ≡ false → asked l ≡ Shape N S
+      → beyondPlaces N S 5 ≡ false → asked l ≡ Shape N S
   unfolding inputText
   good N S h sp nl n s legal =
-      let b = places-bounds N S legal in
+      let b = places-bounds N S 5 legal in
       let first : take 1 l ≡ decimal N = n .text (omega arith) in
       let between : middle ≡ decimal S = s .text (omega arith) in
       asked-shape l N S (asks-text l N S legal (split-ends l space newline h sp nl ∙ cc))

@@ -24,7 +24,7 @@ inputText N S = decimal N ++ (space ∷ decimal S ++ (newline ∷ []))
 
 -- whether l asks for N cards and S stripes: they are within the limits, and it is their text
 unfoldable pub asksFor : List ℕ → ℕ → ℕ → Bool
-asksFor l N S = not (beyondPlaces N S) && same l (inputText N S)
+asksFor l N S = not (beyondPlaces N S 5) && same l (inputText N S)
 
 -- the lowest S, of 0 to 1,024, that l asks for with N cards, and 1,025 where there is none
 unfoldable pub stripesIn : List ℕ → ℕ → ℕ

@@ -16,10 +16,10 @@ use Rattle.text.specs.Input.{space, newline}
 abbrev pub letterP : ℕ
 letterP = 80
 
--- what card c shows in stripe s: P, or its block number
+-- what card c shows in stripe s of layout 5: P, or its block number
 unfoldable pub shown : ℕ → ℕ → ℕ → List ℕ
 shown N s c =
-    cond (eqb (positionOf N s c) (N - 1)) (letterP ∷ []) (decimal (blockOf N s (positionOf N s c)))
+    cond (eqb (positionOf N 5 s c) (N - 1)) (letterP ∷ []) (decimal (blockOf N s (positionOf N 5 s c)))
 
 -- the text of an answer about what a card holds, nothing where it was refused
 unfoldable pub heldText : Held → List ℕ
@@ -44,4 +44,4 @@ lineRoom = 45
 -- what is written for stripe s of N cards and S stripes: nothing where N or S is beyond its limits, s is not below S, or the room is too small
 unfoldable pub written : ℕ → ℕ → ℕ → ℕ → List ℕ
 written N S s room =
-    cond (ltb room lineRoom || (beyondPlaces N S || leb S s)) [] (lineText N s)
+    cond (ltb room lineRoom || (beyondPlaces N S 5 || leb S s)) [] (lineText N s)

@@ -33,7 +33,7 @@ fn put_held(held: Held, out: &mut [u8], at: usize) -> usize
 
 // Puts what each card holds in a stripe into out from a place on, each after a space, and answers the place behind them.
 fn put_cards(cards: u64, stripes: u64, stripe: u64, out: &mut [u8], at: usize) -> usize
-    requires { ⌜ beyondPlaces cards stripes ≡ false ⌝ }
+    requires { ⌜ beyondPlaces cards stripes 5 ≡ false ⌝ }
     requires { ⌜ stripe < stripes ⌝ }
     requires { ⌜ at + 5 * cards ≤ length (now out) ⌝ }
     ensures { λ r. ⌜ r ≡ at + length (cardsText cards stripe cards) ⌝ }

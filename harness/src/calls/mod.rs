@@ -29,8 +29,8 @@ impl Lent<'_> {
 
 /// An engine behind the C interface. Slices stand for a pointer and a length.
 pub trait Calls {
-    fn place(&self, cards: u64, stripes: u64, block: u64) -> u64;
-    fn block_at(&self, cards: u64, stripes: u64, card: u64, stripe: u64) -> u64;
+    fn place(&self, cards: u64, stripes: u64, layout: u64, block: u64) -> u64;
+    fn block_at(&self, cards: u64, stripes: u64, layout: u64, card: u64, stripe: u64) -> u64;
     fn scan(&self, state: &State, image: &[u8]) -> u64;
     /// Opens an array of the numbers that are asked for; a lost mark and a fill place among them play no part.
     fn open(&self, lent: &mut Lent, asked: &State) -> u64;

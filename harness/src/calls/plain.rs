@@ -18,12 +18,12 @@ fn answer<T>(result: Result<T, Refusal>, values: impl Fn(T) -> (u64, u64)) -> u6
 }
 
 impl Calls for Plain {
-    fn place(&self, cards: u64, stripes: u64, block: u64) -> u64 {
-        answer(plain::place(cards, stripes, block), |place| (place.card, place.stripe))
+    fn place(&self, cards: u64, stripes: u64, layout: u64, block: u64) -> u64 {
+        answer(plain::place(cards, stripes, layout, block), |place| (place.card, place.stripe))
     }
 
-    fn block_at(&self, cards: u64, stripes: u64, card: u64, stripe: u64) -> u64 {
-        answer(plain::block_at(cards, stripes, card, stripe), |role| match role {
+    fn block_at(&self, cards: u64, stripes: u64, layout: u64, card: u64, stripe: u64) -> u64 {
+        answer(plain::block_at(cards, stripes, layout, card, stripe), |role| match role {
             Role::Block(block) => (0, block),
             Role::Parity => (1, 0),
         })

@@ -14,7 +14,7 @@ pub fn on_card(state: &State, card: u64, stripe: u64) -> Range<usize> {
 
 /// The place of a stripe's position in the image.
 pub fn in_image(state: &State, stripe: u64, position: u64) -> Range<usize> {
-    on_card(state, card_at(state.cards, stripe, position), stripe)
+    on_card(state, card_at(state, stripe, position), stripe)
 }
 
 /// The place of a record's block to write; that of position n is for computed parity.

@@ -130,9 +130,7 @@ pub fn step(
 /// The card that a step is on; the exclusive or is on none.
 fn on_card(state: &State, stripe: u64, action: Action) -> Option<u64> {
     match action {
-        Action::Read(position) | Action::Write(position) => {
-            Some(card_at(state.cards, stripe, position))
-        }
+        Action::Read(position) | Action::Write(position) => Some(card_at(state, stripe, position)),
         Action::Sum => None,
     }
 }
@@ -145,7 +143,7 @@ fn add_up(state: &State, request: &Record, record: u64, reads: u64, work: &mut [
         sum.add(&work[was_read(state, record, position)]);
     }
     let target = if request.graph == DEGRADED_READ {
-        let missing = position_on(state.cards, request.stripe, request.chosen);
+        let missing = position_on(state, request.stripe, request.chosen);
         was_read(state, record, missing)
     } else {
         for unit in members(request.mask) {

@@ -28,7 +28,7 @@ pub fn rebuild(state: &mut State, table: &[Record], image: &mut [u8]) -> Result<
     demand(state.filling(), Refusal::NothingToFill)?;
 
     let stripe = state.fill;
-    let missing = position_on(state.cards, stripe, state.out);
+    let missing = position_on(state, stripe, state.out);
     let others = (0..state.cards).filter(|&position| position != missing);
     let inferred = stripe_sum(state, image, stripe, others);
     image[on_card(state, state.out, stripe)].copy_from_slice(inferred.bytes(state));

@@ -1,5 +1,6 @@
-//! What the layout program writes.
+//! What the layout program writes: layout 5.
 use super::placement::{block_at, Role};
+use super::state::LEVEL_5;
 
 /// A number that is written in decimal without leading zeros.
 fn number(text: &str) -> Option<u64> {
@@ -17,7 +18,7 @@ fn asked(input: &[u8]) -> Option<(u64, u64)> {
     let (cards, stripes) = line.split_once(' ')?;
     let (cards, stripes) = (number(cards)?, number(stripes)?);
     // The first card of the first stripe is there, unless the numbers are beyond the limits.
-    block_at(cards, stripes, 0, 0).ok().map(|_| (cards, stripes))
+    block_at(cards, stripes, LEVEL_5, 0, 0).ok().map(|_| (cards, stripes))
 }
 
 /// One line for each stripe, ascending: the stripe, then for each card the block number, or P, with single spaces between.
@@ -25,7 +26,9 @@ fn line(cards: u64, stripes: u64, stripe: u64) -> String {
     let mut words = vec![stripe.to_string()];
     for card in 0..cards {
         words.push(
-            match block_at(cards, stripes, card, stripe).expect("a card and stripe of the array") {
+            match block_at(cards, stripes, LEVEL_5, card, stripe)
+                .expect("a card and stripe of the array")
+            {
                 Role::Block(block) => block.to_string(),
                 Role::Parity => "P".to_string(),
             },

@@ -1,11 +1,11 @@
-//! An independent implementation: document 01, and request Q-1 of document 02, read once more and written down in ordinary Rust, as
-//! plain as those texts.
+//! An independent implementation: document 01, and requests of document 02, read once more and written down in
+//! ordinary Rust, as plain as those texts.
 //!
 //! It shares nothing with the library. Tests run both on the same input and compare every answer
 //! and every byte; the benchmark takes this one as its measure.
 //!
 //! - `refusal`: the refusal numbers
-//! - `placement`: where blocks are, both ways
+//! - `placement`: where blocks are, both ways, in either layout
 //! - `layout`: what the layout program writes
 //! - `state`: the numbers of an array, and their limits
 //! - `graph`: choosing a graph, its steps and what must come before each
@@ -32,4 +32,4 @@ pub use placement::{block_at, place, Place, Role};
 pub use record::Record;
 pub use refusal::Refusal;
 pub use row::Row;
-pub use state::{State, NONE, NO_FILL};
+pub use state::{State, LAYOUTS, LEVEL_4, LEVEL_5, NONE, NO_FILL};

@@ -3,8 +3,8 @@
 /// Why a call was refused. Lower numbers are tested first (collect tests 10 before 7).
 #[derive(Clone, Copy, PartialEq, Eq, Debug)]
 pub enum Refusal {
-    /// N, S, B or K is beyond its limits, the card out is neither below N nor 255, or there is a fill
-    /// place that is not below S or with no card out.
+    /// N, S, B or K is beyond its limits, the layout is neither 4 nor 5, the card out is neither below N
+    /// nor 255, or there is a fill place that is not below S or with no card out.
     Limits,
     /// The image, table or work store is of another length.
     Length,

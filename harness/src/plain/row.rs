@@ -58,7 +58,7 @@ impl Row {
 /// A unit as the cards have it, or, on the card that is out in its stripe, as the others imply it.
 pub fn unit_in(state: &State, image: &[u8], stripe: u64, unit: u64) -> Vec<u8> {
     let out = state.out_in(stripe);
-    if out != NONE && position_on(state.cards, stripe, out) == unit {
+    if out != NONE && position_on(state, stripe, out) == unit {
         let others = (0..state.cards).filter(|&position| position != unit);
         stripe_sum(state, image, stripe, others).bytes(state).to_vec()
     } else {

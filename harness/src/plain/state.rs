@@ -8,6 +8,15 @@ pub const NONE: u64 = 255;
 /// The fill place when no fill is under way.
 pub const NO_FILL: u64 = 65_535;
 
+/// The layout of older boxes, RAID level 4: parity on the last card, unit i on card i.
+pub const LEVEL_4: u64 = 4;
+
+/// The layout of document 01, RAID level 5: parity rotated.
+pub const LEVEL_5: u64 = 5;
+
+/// Both layouts.
+pub const LAYOUTS: [u64; 2] = [LEVEL_4, LEVEL_5];
+
 /// The state of an array, as the caller keeps it.
 #[repr(C)]
 #[derive(Clone, Copy, PartialEq, Eq, Debug, Default)]
@@ -20,6 +29,8 @@ pub struct State {
     pub block: u64,
     /// K, 1 to 8.
     pub records: u64,
+    /// 4 or 5.
+    pub layout: u64,
     /// The card that is out, or 255.
     pub out: u64,
     /// Not 0 once a second card was reported.
@@ -29,18 +40,33 @@ pub struct State {
 }
 
 impl State {
-    /// An array with one record and no card out.
+    /// An array of layout 5 with one record and no card out.
     pub fn whole(cards: u64, stripes: u64, block: u64) -> State {
-        State { cards, stripes, block, records: 1, out: NONE, lost: 0, fill: NO_FILL }
+        State {
+            cards,
+            stripes,
+            block,
+            records: 1,
+            layout: LEVEL_5,
+            out: NONE,
+            lost: 0,
+            fill: NO_FILL,
+        }
     }
 
-    /// N, S, B, K, the card out and the fill place are all within their limits.
+    /// The same in each layout.
+    pub fn in_both_layouts(self) -> [State; 2] {
+        LAYOUTS.map(|layout| State { layout, ..self })
+    }
+
+    /// N, S, B, K, the layout, the card out and the fill place are all within their limits.
     pub fn within_limits(&self) -> bool {
         (3..=8).contains(&self.cards)
             && (1..=1024).contains(&self.stripes)
             && (16..=512).contains(&self.block)
             && self.block % 16 == 0
             && (1..=8).contains(&self.records)
+            && LAYOUTS.contains(&self.layout)
             && (self.out < self.cards || self.out == NONE)
             && (!self.filling() || (self.fill < self.stripes && self.out != NONE))
     }
@@ -82,7 +108,7 @@ impl State {
         if card == NONE {
             None
         } else {
-            Some(position_on(self.cards, stripe, card))
+            Some(position_on(self, stripe, card))
         }
     }
 }

@@ -36,6 +36,7 @@ fn random_histories() {
         }
     });
     nothing_was_left_out(&tally);
+    each_layout_had_its_part(&tally, stories);
     enough_was_filled(&tally, stories);
 }
 
@@ -49,7 +50,7 @@ fn nothing_was_left_out(tally: &Tally) {
     tally.demand("afresh", &afresh);
     tally.only("afresh", &afresh);
     tally.demand("longest", &[3, 4, 5, 6, 7, 8]);
-    tally.demand("open", &[0, 13]);
+    tally.demand("open", &[0, 1, 13]);
     tally.demand("admit", &[0, 4, 5, 6, 7, 8, 9]);
     tally.demand("step", &[0, 4, 5, 10, 11]);
     tally.demand("report", &[0, 4, 5, 12]);
@@ -58,6 +59,23 @@ fn nothing_was_left_out(tally: &Tally) {
     tally.demand("scan", &[0, 4, 12, 13]);
     tally.demand("start", &[0, 4, 14, 15]);
     tally.demand("rebuild", &[0, 4, 8, 14]);
+}
+
+/// Each layout had its part of the histories, and in each every graph was met, every way to choose afresh and fills to the end.
+fn each_layout_had_its_part(tally: &Tally, stories: u64) {
+    tally.only("layout", &[4, 5]);
+    for layout in [4, 5] {
+        tally.at_least("layout", layout, stories / 3);
+        tally.at_least("filled to the end, layout", layout, stories / 10);
+    }
+    for graphs in ["graph, layout 4", "graph, layout 5"] {
+        for graph in 1..=6 {
+            tally.at_least(graphs, graph, stories / 10);
+        }
+    }
+    for ways in ["afresh, layout 4", "afresh, layout 5"] {
+        tally.demand(ways, &[12, 34, 36, 43, 44, 46, 55, 56]);
+    }
 }
 
 /// So many histories had fresh cards in them, met by requests, by their own death and by the failures of others.

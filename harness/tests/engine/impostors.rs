@@ -109,12 +109,12 @@ fn let_go(table: &[Record], stripe: u64) -> Vec<Record> {
 }
 
 impl Calls for Impostor {
-    fn place(&self, cards: u64, stripes: u64, block: u64) -> u64 {
-        Plain.place(cards, stripes, block)
+    fn place(&self, cards: u64, stripes: u64, layout: u64, block: u64) -> u64 {
+        Plain.place(cards, stripes, layout, block)
     }
 
-    fn block_at(&self, cards: u64, stripes: u64, card: u64, stripe: u64) -> u64 {
-        Plain.block_at(cards, stripes, card, stripe)
+    fn block_at(&self, cards: u64, stripes: u64, layout: u64, card: u64, stripe: u64) -> u64 {
+        Plain.block_at(cards, stripes, layout, card, stripe)
     }
 
     fn scan(&self, state: &State, image: &[u8]) -> u64 {

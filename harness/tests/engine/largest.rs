@@ -1,4 +1,4 @@
-//! The smallest and the largest array there can be, and all sizes of a block.
+//! The smallest and the largest array there can be, and all sizes of a block, in both layouts.
 
 use crate::pair::{Call, Pair};
 use crate::story::some_side;
@@ -34,8 +34,8 @@ fn run(state: State) {
     let side = some_side(&mut random, state);
     let mut row = Row::of(&state, &side.image);
     let mut pair = Pair::new(&calls, side);
-    let State { cards, stripes, block, records, .. } = state;
-    let open = Call::Open { cards, stripes, block, records, out: 255 };
+    let State { cards, stripes, block, .. } = state;
+    let open = Call::open(&state);
     let (stripe, mask) = (stripes - 1, (1 << state.units()) - 1);
 
     let last = in_image(&state, stripe, 1).end - 1;
@@ -73,15 +73,18 @@ fn fill(pair: &mut Pair) {
 
 #[test]
 fn the_smallest_and_the_largest_array() {
-    run(State::whole(3, 1, 16));
-    run(State { records: 8, ..State::whole(8, 1024, 512) });
+    let (smallest, largest) =
+        (State::whole(3, 1, 16), State { records: 8, ..State::whole(8, 1024, 512) });
+    smallest.in_both_layouts().into_iter().for_each(run);
+    largest.in_both_layouts().into_iter().for_each(run);
 }
 
 #[test]
 fn every_size_of_a_block() {
     for cards in 3..=8 {
         for sixteens in 1..=32 {
-            run(State { records: 2, ..State::whole(cards, cards + 1, 16 * sixteens) });
+            let state = State { records: 2, ..State::whole(cards, cards + 1, 16 * sixteens) };
+            state.in_both_layouts().into_iter().for_each(run);
         }
     }
 }

@@ -1,7 +1,8 @@
-//! The longest request: 2n+3 accepted steps are reached for every N, and never more.
+//! The longest request: 2n+3 accepted steps are reached for every N in both layouts, and never more.
 
 use crate::scene::Scene;
 use crate::tested;
+use harness::plain::LAYOUTS;
 
 const UNITS: [u8; 7] = [0x11, 0x22, 0x44, 0x88, 0x0F, 0xF0, 0x3C];
 
@@ -19,17 +20,17 @@ fn put_off(scene: &mut Scene, record: u64, stripe: u64, position: u64) -> u64 {
 
 #[test]
 fn the_longest_request_of_every_array() {
-    longest_of_every_array(false);
+    LAYOUTS.into_iter().for_each(|layout| longest_of_every_array(layout, false));
 }
 
 /// The same in a stripe that is filled, when its fresh card dies.
 #[test]
 fn the_longest_request_over_a_fresh_card() {
-    longest_of_every_array(true);
+    LAYOUTS.into_iter().for_each(|layout| longest_of_every_array(layout, true));
 }
 
-/// Every request of every N in some stripes: on whole cards, or with the card filled that is going to die.
-fn longest_of_every_array(fresh: bool) {
+/// Every request of every N in some stripes of a layout: on whole cards, or with the card filled that is going to die.
+fn longest_of_every_array(layout: u64, fresh: bool) {
     for cards in 3..=8 {
         let units = cards - 1;
         let mut longest = 0;
@@ -39,7 +40,7 @@ fn longest_of_every_array(fresh: bool) {
                     for write in [false, true] {
                         let calls = tested();
                         let old = &UNITS[..units as usize];
-                        let mut scene = Scene::new(&calls, cards, cards + 1, old);
+                        let mut scene = Scene::new(&calls, layout, cards + 1, old);
                         if fresh {
                             scene.fail(stripe, position);
                             scene.decay(0xDD);
@@ -68,6 +69,6 @@ fn longest_of_every_array(fresh: bool) {
                 }
             }
         }
-        assert_eq!(longest, 2 * units + 3, "N = {cards}");
+        assert_eq!(longest, 2 * units + 3, "N = {cards}, layout {layout}");
     }
 }

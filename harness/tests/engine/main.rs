@@ -1,4 +1,4 @@
-//! The library, through its C calls, held to document 01, to request Q-1 of document 02, and to the plain engine.
+//! The library, through its C calls, held to document 01, to requests of document 02, and to the plain engine.
 
 mod boundary;
 mod examples;
@@ -7,6 +7,7 @@ mod history;
 mod impostors;
 mod largest;
 mod longest;
+mod mislaid;
 mod numbers;
 mod orders;
 mod pair;

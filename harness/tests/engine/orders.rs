@@ -2,6 +2,8 @@
 //! at each moment. After every step the tested engine is compared with the plain one, and at the
 //! end the stripe with the row; then the card is filled, and the stripe compared once more.
 //!
+//! Which card holds a position differs between the layouts; the ways are as many in both.
+//!
 //! A stripe that is filled counts no card out: what its requests come to when the fresh card dies is the same.
 
 use crate::pair::{Call, Pair, Side};
@@ -11,8 +13,8 @@ use harness::plain::blocks::make_right;
 use harness::plain::Row;
 
 /// An array of `stripes` stripes with unlike bytes in all places and right parity.
-fn array(cards: u64, stripes: u64) -> Side {
-    let state = State::whole(cards, stripes, 16);
+fn array(cards: u64, stripes: u64, layout: u64) -> Side {
+    let state = State { layout, ..State::whole(cards, stripes, 16) };
     let mut side = Side::for_state(state);
     for (at, byte) in side.image.iter_mut().enumerate() {
         *byte = (at * 37 + at / 16 * 11) as u8;
@@ -109,8 +111,8 @@ fn report(calls: &dyn Calls, here: &Side, card: u64) -> Side {
 
 /// The array before the request: the card that is going to die is whole, or a fresh one that is filled up to this stripe, with one
 /// more to go.
-fn before(cards: u64, stripe: u64, card: u64, fresh: bool) -> Side {
-    let mut side = array(cards, stripe + 2);
+fn before(array: &Side, stripe: u64, card: u64, fresh: bool) -> Side {
+    let mut side = array.clone();
     if fresh {
         side.state = State { out: card, fill: stripe + 1, ..side.state };
         let missing = side.missing();
@@ -119,9 +121,10 @@ fn before(cards: u64, stripe: u64, card: u64, fresh: bool) -> Side {
     side
 }
 
-/// All ways of all requests on one stripe; how many there are. A fresh card that dies leads to just the same as a whole one.
-fn ways_of(cards: u64, stripe: u64) -> u64 {
+/// All ways of all requests on one stripe of a layout; how many there are. A fresh card that dies leads to just the same as a whole one.
+fn ways_of(cards: u64, stripe: u64, layout: u64) -> u64 {
     let calls = tested();
+    let array = array(cards, stripe + 2, layout);
     let mut ways = 0;
     for (write, card) in (0..cards).flat_map(|card| [(0, card), (1, card)]) {
         for mask in 1u64..1 << (cards - 1) {
@@ -130,14 +133,13 @@ fn ways_of(cards: u64, stripe: u64) -> u64 {
                 _ => (0..16 * mask.count_ones()).map(|at| (at * 59 + 7) as u8).collect(),
             };
             let [whole, fresh] = [false, true].map(|fresh| {
-                let mut pair = Pair::new(&calls, before(cards, stripe, card, fresh));
+                let mut pair = Pair::new(&calls, before(&array, stripe, card, fresh));
                 let admit = Call::Admit { write, stripe, mask, payload: payload.clone() };
                 assert_eq!(pair.call(&admit, &mut Vec::new()), Ok(Answer::accepted(0, 0)));
                 assert_eq!(pair.theirs.table[0].chosen, 255);
                 after_reports(&calls, &pair.theirs, card)
             });
-            assert!(whole == fresh, "stripe {stripe}, mask {mask:b}, card {card}");
-            let array = array(cards, stripe + 2);
+            assert!(whole == fresh, "layout {layout}, stripe {stripe}, mask {mask:b}, card {card}");
             let mut row = Row::of(&array.state, &array.image);
             row.write(stripe, if write == 1 { mask } else { 0 }, &payload);
             for here in &whole {
@@ -150,19 +152,21 @@ fn ways_of(cards: u64, stripe: u64) -> u64 {
 
 #[test]
 fn every_order_of_three_cards() {
-    for stripe in 0..3 {
-        assert_eq!(ways_of(3, stripe), 308);
+    for (stripe, layout) in (0..3).flat_map(|stripe| [(stripe, 4), (stripe, 5)]) {
+        assert_eq!(ways_of(3, stripe, layout), 308);
     }
 }
 
 #[test]
 fn every_order_of_four_cards() {
-    for stripe in 0..4 {
-        assert_eq!(ways_of(4, stripe), 6_225);
+    for (stripe, layout) in (0..4).flat_map(|stripe| [(stripe, 4), (stripe, 5)]) {
+        assert_eq!(ways_of(4, stripe, layout), 6_225);
     }
 }
 
 #[test]
 fn every_order_of_five_cards() {
-    assert_eq!(ways_of(5, 1), 187_248);
+    for layout in [4, 5] {
+        assert_eq!(ways_of(5, 1, layout), 187_248);
+    }
 }

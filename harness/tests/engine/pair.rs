@@ -38,10 +38,10 @@ impl Side {
 /// One call, with its arguments.
 #[derive(Clone, Debug)]
 pub enum Call {
-    Place { cards: u64, stripes: u64, block: u64 },
-    BlockAt { cards: u64, stripes: u64, card: u64, stripe: u64 },
+    Place { cards: u64, stripes: u64, layout: u64, block: u64 },
+    BlockAt { cards: u64, stripes: u64, layout: u64, card: u64, stripe: u64 },
     Scan,
-    Open { cards: u64, stripes: u64, block: u64, records: u64, out: u64 },
+    Open { cards: u64, stripes: u64, block: u64, records: u64, layout: u64, out: u64 },
     Admit { write: u64, stripe: u64, mask: u64, payload: Vec<u8> },
     Step { record: u64, step: u64 },
     Report { card: u64 },
@@ -52,6 +52,12 @@ pub enum Call {
 }
 
 impl Call {
+    /// Opens an array of this state's numbers.
+    pub fn open(state: &State) -> Call {
+        let State { cards, stripes, block, records, layout, out, .. } = *state;
+        Call::Open { cards, stripes, block, records, layout, out }
+    }
+
     /// Its place in tables of what was seen.
     pub fn name(&self) -> &'static str {
         match self {
@@ -73,13 +79,16 @@ impl Call {
     pub fn make(&self, calls: &dyn Calls, side: &mut Side, result: &mut [u8]) -> Answer {
         let lent = &mut side.lent();
         Answer::of(match *self {
-            Call::Place { cards, stripes, block } => calls.place(cards, stripes, block),
-            Call::BlockAt { cards, stripes, card, stripe } => {
-                calls.block_at(cards, stripes, card, stripe)
+            Call::Place { cards, stripes, layout, block } => {
+                calls.place(cards, stripes, layout, block)
+            }
+            Call::BlockAt { cards, stripes, layout, card, stripe } => {
+                calls.block_at(cards, stripes, layout, card, stripe)
             }
             Call::Scan => calls.scan(lent.state, lent.image),
-            Call::Open { cards, stripes, block, records, out } => {
-                calls.open(lent, &State { records, out, ..State::whole(cards, stripes, block) })
+            Call::Open { cards, stripes, block, records, layout, out } => {
+                let whole = State::whole(cards, stripes, block);
+                calls.open(lent, &State { records, layout, out, ..whole })
             }
             Call::Admit { write, stripe, mask, ref payload } => {
                 calls.admit(lent, write, stripe, mask, payload)

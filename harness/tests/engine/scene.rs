@@ -12,9 +12,10 @@ pub struct Scene<'a> {
 }
 
 impl<'a> Scene<'a> {
-    /// An open array with no card out, each stripe with these units and their parity.
-    pub fn new(calls: &'a dyn Calls, cards: u64, stripes: u64, units: &[u8]) -> Scene<'a> {
-        let state = State { records: 4, ..State::whole(cards, stripes, 16) };
+    /// An open array of a layout and of so many stripes with no card out, each stripe with these units and their parity.
+    pub fn new(calls: &'a dyn Calls, layout: u64, stripes: u64, units: &[u8]) -> Scene<'a> {
+        let cards = units.len() as u64 + 1;
+        let state = State { records: 4, layout, ..State::whole(cards, stripes, 16) };
         let mut side = Side::for_state(state);
         for stripe in 0..stripes {
             let parity = units.iter().fold(0, |sum, byte| sum ^ byte);
@@ -23,8 +24,7 @@ impl<'a> Scene<'a> {
             }
         }
         let mut scene = Scene { pair: Pair::new(calls, side), result: Vec::new() };
-        let opened = scene.call(Call::Open { cards, stripes, block: 16, records: 4, out: 255 });
-        assert_eq!(opened.number, 0);
+        assert_eq!(scene.call(Call::open(&state)).number, 0);
         scene
     }
 
@@ -86,7 +86,7 @@ impl<'a> Scene<'a> {
 
     /// Reports the card that holds a position of a stripe (n for parity).
     pub fn fail(&mut self, stripe: u64, position: u64) {
-        let card = card_at(self.state().cards, stripe, position);
+        let card = card_at(&self.state(), stripe, position);
         assert_eq!(self.call(Call::Report { card }).number, 0, "card {card} reported");
     }
 

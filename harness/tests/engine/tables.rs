@@ -90,17 +90,20 @@ fn likely_tables() {
     assert!((10_000..50_000).contains(&sound_ones), "{sound_ones} sound tables");
 }
 
-/// Every set of done steps, of every graph that an array of four to six cards can choose.
+/// Every set of done steps, of every graph that an array of four to six cards can choose, in both layouts.
 #[test]
 fn every_set_of_done_steps() {
     let calls = tested();
-    for cards in 4..=6u64 {
-        let units = cards - 1;
+    let arrays = (4..=6).flat_map(|cards| State::whole(cards, 2, 16).in_both_layouts());
+    for whole in arrays {
+        let State { cards, layout, .. } = whole;
+        let units = whole.units();
         for (out, stripe) in (0..cards).chain([255]).flat_map(|out| [(out, 0), (out, 1)]) {
-            if cards == 6 && stripe == 0 {
+            // In stripe 0 both layouts place alike.
+            if stripe == 0 && (cards == 6 || layout == 4) {
                 continue;
             }
-            let state = State { out, lost: 1, ..State::whole(cards, 2, 16) };
+            let state = State { out, lost: 1, ..whole };
             let image = vec![0; state.image_length() as usize];
             for (mask, write) in (1..1 << units).flat_map(|mask| [(mask, 0), (mask, 1)]) {
                 let mut record = Record { stripe, mask, write, chosen: out, ..Record::default() };
@@ -110,7 +113,7 @@ fn every_set_of_done_steps() {
                     let record = [Record { phase, done, ..record }];
                     let theirs = calls.check(&state, &record, &image);
                     let ours = Plain.check(&state, &record, &image);
-                    assert_eq!(theirs, ours, "{record:?} with {out} out");
+                    assert_eq!(theirs, ours, "{record:?} with {out} out in layout {layout}");
                 }
             }
         }
@@ -122,7 +125,7 @@ fn every_set_of_done_steps() {
 #[test]
 fn every_chosen_with_card() {
     let calls = tested();
-    for state in (3..=8).flat_map(every_fill) {
+    for state in (3..=8).flat_map(every_fill).flat_map(State::in_both_layouts) {
         let image = vec![0; state.image_length() as usize];
         for (stripe, write) in (0..state.stripes).flat_map(|stripe| [(stripe, 0), (stripe, 1)]) {
             for chosen in (0..=state.cards).chain([254, 255, 256, u64::MAX]) {
@@ -152,7 +155,7 @@ fn every_fill(cards: u64) -> impl Iterator<Item = State> {
     (0..cards).flat_map(places).chain([whole])
 }
 
-/// Every record there can be, for N = 3: of one stripe with each card out and none, and of two of which one is filled.
+/// Every record there can be, for N = 3, in both layouts: of one stripe with each card out and none, and of two of which one is filled.
 #[test]
 fn every_record_of_three_cards() {
     let calls = tested();
@@ -161,7 +164,7 @@ fn every_record_of_three_cards() {
     let lost = |stripes| State { lost: 1, ..State::whole(3, stripes, 16) };
     let one = [255, 0, 1, 2].map(|out| State { out, ..lost(1) });
     let two = [0, 1, 2].map(|out| State { out, fill: 1, ..lost(2) });
-    for state in one.into_iter().chain(two) {
+    for state in one.into_iter().chain(two).flat_map(State::in_both_layouts) {
         let image = vec![0; state.image_length() as usize];
         for numbers in 0..4u64 * 3 * 2 * 6 * 8 * 5 {
             let mut rest = numbers;

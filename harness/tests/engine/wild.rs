@@ -8,6 +8,7 @@ use crate::tables::likely_record;
 use crate::tally::Tally;
 use crate::tested;
 use harness::calls::{Calls, Plain, Record, State};
+use harness::plain::LAYOUTS;
 use harness::random::Random;
 
 /// Changes a table in one of many ways, or leaves it.
@@ -54,7 +55,7 @@ fn alter_length<T: Copy + Default>(random: &mut Random, list: &mut Vec<T>) {
 /// Changes what is lent for an array of this state: the table, a number of the state, a length; or
 /// nothing.
 fn alter_side(random: &mut Random, state: &State, side: &mut Side) {
-    match random.below(11) {
+    match random.below(12) {
         _ if side.table.is_empty() || side.image.is_empty() => {}
         0..=4 => alter_table(random, state, &mut side.table),
         5 => {
@@ -79,6 +80,8 @@ fn alter_side(random: &mut Random, state: &State, side: &mut Side) {
             side.state.out = random.pick(&[state.out, card]);
             side.state.fill = mostly_below(random, state.stripes);
         }
+        // The other layout, in which a record that was chosen with a card may have another graph.
+        10 => side.state.layout = 9 - state.layout,
         _ => {}
     }
 }
@@ -105,15 +108,18 @@ pub fn some_admit(random: &mut Random, state: &State) -> Call {
 fn some_call(random: &mut Random, state: &State) -> Call {
     let cards = random.between(3, 8);
     let stripes = random.between(1, 1024);
+    let layout = random.pick(&LAYOUTS);
     match random.below(11) {
         0 => Call::Place {
             cards: maybe_wild(random, cards),
             stripes: maybe_wild(random, stripes),
+            layout: maybe_wild(random, layout),
             block: mostly_below(random, cards * stripes),
         },
         1 => Call::BlockAt {
             cards: maybe_wild(random, cards),
             stripes: maybe_wild(random, stripes),
+            layout: maybe_wild(random, layout),
             card: mostly_below(random, cards),
             stripe: mostly_below(random, stripes),
         },
@@ -123,6 +129,7 @@ fn some_call(random: &mut Random, state: &State) -> Call {
             stripes: maybe_wild(random, state.stripes),
             block: maybe_wild(random, state.block),
             records: maybe_wild(random, state.records),
+            layout: maybe_wild(random, state.layout),
             out: maybe_wild(random, state.out),
         },
         4 => some_admit(random, state),

@@ -34,11 +34,12 @@ pub fn requests(state: &State, cards: &[u64]) -> Vec<Record> {
     all
 }
 
-/// Every card out, or none, of an array of N cards and as many stripes: one stripe of each kind.
+/// Every card out, or none, of an array of N cards and as many stripes in each layout: of layout 5, one stripe of each kind.
 pub fn states(cards: u64) -> Vec<State> {
     (0..cards)
         .chain([NONE])
         .map(|out| State { records: 8, out, ..State::whole(cards, cards, 16) })
+        .flat_map(State::in_both_layouts)
         .collect()
 }
 
@@ -198,6 +199,44 @@ fn wild_states() {
             let state = State { records: 8, out, fill, ..State::whole(5, 5, 16) };
             assert!(sound_by_library(&state, &[Record::default()]));
             sound_by_library(&state, &[Record { chosen: out, ..record }]);
+        }
+    }
+    // Layouts that no state has: nothing traps, and a free record is sound.
+    for layout in [0, 3, 6, 255, (1 << 32) + 4, (1 << 32) + 5, u64::MAX] {
+        for out in [NONE, 0, 4] {
+            let state = State { records: 8, layout, out, ..State::whole(5, 5, 16) };
+            assert!(sound_by_library(&state, &[Record::default()]));
+            for stripe in 0..5 {
+                sound_by_library(&state, &[Record { stripe, chosen: out, ..record }]);
+            }
+        }
+    }
+}
+
+/// What the layout means for a record that was chosen with a card, said by the paper's table: a write of unit 0 in stripe 1 of N = 5,
+/// and a read.
+#[test]
+fn the_layout_decides_the_position() {
+    // Position by card: of layout 4 units 0 to 3 and parity, of layout 5 units 1 to 3, parity and unit 0.
+    for (layout, writes, reads) in
+        [(4, [4, 3, 3, 3, 6], [2, 1, 1, 1, 1]), (5, [3, 3, 3, 6, 4], [1, 1, 1, 1, 2])]
+    {
+        for out in 0..5 {
+            let state = State { records: 8, layout, out, ..State::whole(5, 5, 16) };
+            for (write, right) in [(1, writes[out as usize]), (0, reads[out as usize])] {
+                for graph in 0..8 {
+                    let record = Record {
+                        phase: OPEN,
+                        write,
+                        stripe: 1,
+                        mask: 1,
+                        graph,
+                        chosen: out,
+                        ..Record::default()
+                    };
+                    assert_eq!(same(&state, record), graph == right, "{record:?} in {state:?}");
+                }
+            }
         }
     }
 }

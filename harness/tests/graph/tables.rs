@@ -40,7 +40,7 @@ fn states() -> impl Iterator<Item = State> {
         let state = State { records: 8, ..State::whole(cards, 4, 16) };
         let out = (0..cards).chain([NONE]).map(move |out| State { out, ..state });
         let filling = (0..4).map(move |fill| State { out: fill, fill, ..state });
-        out.chain(filling)
+        out.chain(filling).flat_map(State::in_both_layouts)
     })
 }
 
@@ -125,18 +125,19 @@ fn a_forerunner_that_is_not_done() {
 /// Two open records on one stripe, at every two places; and one open, one finished.
 #[test]
 fn two_on_one_stripe() {
-    let state = State { records: 8, ..State::whole(8, 64, 16) };
-    let open = Record { phase: OPEN, mask: 1, graph: 1, chosen: NONE, ..Record::default() };
-    let finished = Record { phase: FINISHED, done: 1, ..open };
-    let apart: Vec<Record> = (0..8).map(|at| Record { stripe: 8 * at, ..open }).collect();
-    assert!(sound(&state, &apart));
-    for first in 0..8 {
-        for second in (0..8).filter(|&second| second != first) {
-            let mut table = apart.clone();
-            table[second].stripe = table[first].stripe;
-            assert!(!sound(&state, &table), "{first} and {second}");
-            table[first] = Record { stripe: table[first].stripe, ..finished };
-            assert!(sound(&state, &table), "{first} and {second}");
+    for state in (State { records: 8, ..State::whole(8, 64, 16) }).in_both_layouts() {
+        let open = Record { phase: OPEN, mask: 1, graph: 1, chosen: NONE, ..Record::default() };
+        let finished = Record { phase: FINISHED, done: 1, ..open };
+        let apart: Vec<Record> = (0..8).map(|at| Record { stripe: 8 * at, ..open }).collect();
+        assert!(sound(&state, &apart));
+        for first in 0..8 {
+            for second in (0..8).filter(|&second| second != first) {
+                let mut table = apart.clone();
+                table[second].stripe = table[first].stripe;
+                assert!(!sound(&state, &table), "{first} and {second}");
+                table[first] = Record { stripe: table[first].stripe, ..finished };
+                assert!(sound(&state, &table), "{first} and {second}");
+            }
         }
     }
 }
@@ -144,7 +145,7 @@ fn two_on_one_stripe() {
 /// Of tables of every length up to eight, free, open and finished records in every order: the lowest free record, and which stripes are held.
 #[test]
 fn free_records_and_held_stripes() {
-    let state = State { records: 8, ..State::whole(8, 8, 16) };
+    let states = (State { records: 8, ..State::whole(8, 8, 16) }).in_both_layouts();
     let open = Record { phase: OPEN, mask: 1, graph: 1, chosen: NONE, ..Record::default() };
     let finished = Record { phase: FINISHED, done: 1, ..open };
     for phases in 0..3usize.pow(8) {
@@ -158,7 +159,9 @@ fn free_records_and_held_stripes() {
                 }
             })
             .collect();
-        for length in [phases % 9, 8] {
+        for (length, state) in
+            [phases % 9, 8].into_iter().flat_map(|length| states.map(|state| (length, state)))
+        {
             let table = &table[..length];
             let free = table.iter().position(|record| record.phase == 0).unwrap_or(length);
             assert!(sound(&state, table), "{table:?}");

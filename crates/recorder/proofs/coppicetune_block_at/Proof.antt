@@ -14,15 +14,15 @@ use Rattle.recorder.proofs.coppicetune_block_at.Statement.{statement}
 use Rattle.recorder.proofs.coppicetune_block_at.Tie as tie
 
 -- the answer, whichever it is, replies what placement replies
-reply : (c : tie.After-block-at) (r : Held) → c .block-at .result ≡ r → let a = c .before .before .args in heldReply r ≡ blockAtReply (a .cards) (a .stripes) (a .card) (a .stripe)
+reply : (c : tie.After-block-at) (r : Held) → c .block-at .result ≡ r → let a = c .before .before .args in heldReply r ≡ blockAtReply (a .cards) (a .stripes) (a .layout) (a .card) (a .stripe)
 reply c r e =
     let a = c .before .before .args in
     sym (ap heldReply e)
     ∙ c .block-at .ensures
-    ∙ ap (λ (g : Geometry). blockAtReply (g .cards) (g .stripes) (a .card) (a .stripe)) (c .before .places .ensures)
+    ∙ ap (λ (g : Geometry). blockAtReply (g .cards) (g .stripes) (g .layout) (a .card) (a .stripe)) (c .before .places .ensures)
 
 -- at a block, the values are 0 and its number
-block : (c : tie.After-known-told) → let a = c .before .before .before .before .before .args in accepted 0 (c .before .held .given .0 .0) ≡ blockAtReply (a .cards) (a .stripes) (a .card) (a .stripe)
+block : (c : tie.After-known-told) → let a = c .before .before .before .before .before .args in accepted 0 (c .before .held .given .0 .0) ≡ blockAtReply (a .cards) (a .stripes) (a .layout) (a .card) (a .stripe)
 unfolding heldReply
 block c = reply (c .before .before .before) (Block _) (c .before .held .given .1)
 
@@ -38,7 +38,7 @@ enum-known-held c = search needs
 pack-requires : tie.Need-pack-requires
 pack-requires c κs =
     let a = c .before .before .before .before .before .args in
-    let small = held-small (a .cards) (a .stripes) (a .card) (a .stripe) _ (sym (block c)) in
+    let small = held-small (a .cards) (a .stripes) (a .layout) (a .card) (a .stripe) _ (sym (block c)) in
     omega (arith, small)
 
 enum-told : tie.Need-enum-told

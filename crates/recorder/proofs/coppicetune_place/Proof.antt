@@ -14,15 +14,15 @@ use Rattle.recorder.proofs.coppicetune_place.Statement.{statement}
 use Rattle.recorder.proofs.coppicetune_place.Tie as tie
 
 -- the answer, whichever it is, replies what placement replies
-reply : (c : tie.After-place) (r : Placed) → c .place .result ≡ r → let a = c .before .before .args in placedReply r ≡ placeReply (a .cards) (a .stripes) (a .block)
+reply : (c : tie.After-place) (r : Placed) → c .place .result ≡ r → let a = c .before .before .args in placedReply r ≡ placeReply (a .cards) (a .stripes) (a .layout) (a .block)
 reply c r e =
     let a = c .before .before .args in
     sym (ap placedReply e)
     ∙ c .place .ensures
-    ∙ ap (λ (g : Geometry). placeReply (g .cards) (g .stripes) (a .block)) (c .before .places .ensures)
+    ∙ ap (λ (g : Geometry). placeReply (g .cards) (g .stripes) (g .layout) (a .block)) (c .before .places .ensures)
 
 -- at a place, the values are its card and its stripe
-at : (c : tie.After-known-told) → let a = c .before .before .before .before .before .args in let v = c .before .placed .given .0 in accepted (v .0) (v .1 .0) ≡ placeReply (a .cards) (a .stripes) (a .block)
+at : (c : tie.After-known-told) → let a = c .before .before .before .before .before .args in let v = c .before .placed .given .0 in accepted (v .0) (v .1 .0) ≡ placeReply (a .cards) (a .stripes) (a .layout) (a .block)
 unfolding placedReply
 at c = reply (c .before .before .before) (At _ _) (c .before .placed .given .1)
 
@@ -38,7 +38,7 @@ enum-known-placed c = search needs
 pack-requires : tie.Need-pack-requires
 pack-requires c κs =
     let a = c .before .before .before .before .before .args in
-    let small = placed-small (a .cards) (a .stripes) (a .block) _ _ (sym (at c)) in
+    let small = placed-small (a .cards) (a .stripes) (a .layout) (a .block) _ _ (sym (at c)) in
     omega (arith, small)
 
 enum-told : tie.Need-enum-told

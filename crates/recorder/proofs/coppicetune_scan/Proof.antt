@@ -11,11 +11,11 @@ use Rattle.recorder.proofs.coppicetune_scan.Tie as tie
 idle-scan-requires : tie.Need-idle-scan-requires
 idle-scan-requires c κs = search needs
 
--- the state that the seven numbers are
+-- the state that the eight numbers are
 abbrev stateOf : tie.Start → State
 stateOf c =
     let a = c .args in
-    record { cards = a .cards; stripes = a .stripes; block = a .block; records = a .records; out = a .out; lost = a .lost; fill = a .fill }
+    record { cards = a .cards; stripes = a .stripes; block = a .block; records = a .records; layout = a .layout; out = a .out; lost = a .lost; fill = a .fill }
 
 scanned-requires : tie.Need-scanned-requires
 scanned-requires c κs = rw (c .idle-scan .ensures .0) (idle-room (stateOf (c .before .before)) (c .before .before .args .image .now))

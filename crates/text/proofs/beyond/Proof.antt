@@ -14,7 +14,7 @@ beyond-places-requires : tie.Need-beyond-places-requires
 beyond-places-requires c κs = search needs
 
 returns : tie.Need-returns
-returns c = c .beyond-places .ensures ∙ ap (λ (g : Geometry). beyondPlaces (g .cards) (g .stripes)) (c .before .places .ensures)
+returns c = c .beyond-places .ensures ∙ ap (λ (g : Geometry). beyondPlaces (g .cards) (g .stripes) (g .layout)) (c .before .places .ensures)
 
 pub beyond-spec : {M : Type 1} → statement M
 beyond-spec = tie.close (tie.spec places-requires beyond-places-requires returns)

@@ -16,7 +16,7 @@ block-at-requires c κs = search needs
 returns : tie.Need-returns
 returns c =
     let a = c .before .before .args in
-    c .block-at .ensures ∙ ap (λ (g : Geometry). blockAtReply (g .cards) (g .stripes) (a .card) (a .stripe)) (c .before .places .ensures)
+    c .block-at .ensures ∙ ap (λ (g : Geometry). blockAtReply (g .cards) (g .stripes) (g .layout) (a .card) (a .stripe)) (c .before .places .ensures)
 
 pub held-at-spec : {M : Type 1} → statement M
 held-at-spec = tie.close (tie.spec places-requires block-at-requires returns)

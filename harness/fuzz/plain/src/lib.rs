@@ -22,13 +22,13 @@ pub struct Side {
 #[repr(C)]
 pub struct Ask {
     call: u32,
-    number: [u64; 5],
+    number: [u64; 6],
 }
 
 /// Makes a call of the plain engine. Neither pointer is null.
 #[no_mangle]
 pub extern "C" fn make_plain(ask: &Ask, side: &mut Side) -> u64 {
-    let [a, b, c, d, e] = ask.number;
+    let [a, b, c, d, e, f] = ask.number;
     let lent = &mut Lent {
         state: &mut side.state,
         table: &mut side.table[..side.table_len],
@@ -38,11 +38,11 @@ pub extern "C" fn make_plain(ask: &Ask, side: &mut Side) -> u64 {
     let payload = &side.payload[..side.payload_len];
     let result = &mut side.result[..side.result_len];
     match ask.call {
-        0 => Plain.place(a, b, c),
-        1 => Plain.block_at(a, b, c, d),
+        0 => Plain.place(a, b, c, d),
+        1 => Plain.block_at(a, b, c, d, e),
         2 => Plain.scan(lent.state, lent.image),
         3 => {
-            let asked = State { records: d, out: e, ..State::whole(a, b, c) };
+            let asked = State { records: d, layout: e, out: f, ..State::whole(a, b, c) };
             Plain.open(lent, &asked)
         }
         4 => Plain.admit(lent, a, b, c, payload),

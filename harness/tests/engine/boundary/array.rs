@@ -13,21 +13,41 @@ fn placement() {
         fault(1, "N = 9", |ask| change!(ask, Place { cards = 9 })),
         fault(1, "S = 0", |ask| change!(ask, Place { stripes = 0 })),
         fault(1, "S = 1025", |ask| change!(ask, Place { stripes = 1025 })),
+        fault(1, "layout 0", |ask| change!(ask, Place { layout = 0 })),
+        fault(1, "layout 3", |ask| change!(ask, Place { layout = 3 })),
+        fault(1, "layout 6", |ask| change!(ask, Place { layout = 6 })),
+        fault(1, "layout 255", |ask| change!(ask, Place { layout = 255 })),
+        fault(1, "layout 2^8+4", |ask| change!(ask, Place { layout = (1 << 8) + 4 })),
+        fault(1, "layout 2^16+5", |ask| change!(ask, Place { layout = (1 << 16) + 5 })),
+        fault(1, "layout 2^32+4", |ask| change!(ask, Place { layout = (1 << 32) + 4 })),
+        fault(1, "layout 2^32+5", |ask| change!(ask, Place { layout = (1 << 32) + 5 })),
+        fault(1, "layout 2^63+5", |ask| change!(ask, Place { layout = (1 << 63) + 5 })),
+        fault(1, "layout 2^64-1", |ask| change!(ask, Place { layout = u64::MAX })),
         fault(5, "block n·S", |ask| change!(ask, Place { block = 4096 })),
         fault(5, "block 2^64-1", |ask| change!(ask, Place { block = u64::MAX })),
     ];
-    let place = ask(Call::Place { cards: 5, stripes: 1024, block: 4095 });
-    lowest_wins(place, &of_block);
+    lowest_wins(ask(Call::Place { cards: 5, stripes: 1024, layout: 5, block: 4095 }), &of_block);
     let of_card = [
         fault(1, "N = 2", |ask| change!(ask, BlockAt { cards = 2 })),
         fault(1, "N = 9", |ask| change!(ask, BlockAt { cards = 9 })),
         fault(1, "S = 0", |ask| change!(ask, BlockAt { stripes = 0 })),
         fault(1, "S = 1025", |ask| change!(ask, BlockAt { stripes = 1025 })),
+        fault(1, "layout 0", |ask| change!(ask, BlockAt { layout = 0 })),
+        fault(1, "layout 3", |ask| change!(ask, BlockAt { layout = 3 })),
+        fault(1, "layout 6", |ask| change!(ask, BlockAt { layout = 6 })),
+        fault(1, "layout 255", |ask| change!(ask, BlockAt { layout = 255 })),
+        fault(1, "layout 2^8+4", |ask| change!(ask, BlockAt { layout = (1 << 8) + 4 })),
+        fault(1, "layout 2^16+5", |ask| change!(ask, BlockAt { layout = (1 << 16) + 5 })),
+        fault(1, "layout 2^32+4", |ask| change!(ask, BlockAt { layout = (1 << 32) + 4 })),
+        fault(1, "layout 2^32+5", |ask| change!(ask, BlockAt { layout = (1 << 32) + 5 })),
+        fault(1, "layout 2^63+5", |ask| change!(ask, BlockAt { layout = (1 << 63) + 5 })),
+        fault(1, "layout 2^64-1", |ask| change!(ask, BlockAt { layout = u64::MAX })),
         fault(5, "card N", |ask| change!(ask, BlockAt { card = 5 })),
         fault(5, "stripe S", |ask| change!(ask, BlockAt { stripe = 1024 })),
         fault(5, "card 2^64-1", |ask| change!(ask, BlockAt { card = u64::MAX })),
     ];
-    lowest_wins(ask(Call::BlockAt { cards: 5, stripes: 1024, card: 4, stripe: 1023 }), &of_card);
+    let last = Call::BlockAt { cards: 5, stripes: 1024, layout: 5, card: 4, stripe: 1023 };
+    lowest_wins(ask(last), &of_card);
 }
 
 #[test]
@@ -42,6 +62,16 @@ fn open() {
         fault(1, "B = 528", |ask| change!(ask, Open { block = 528 })),
         fault(1, "K = 0", |ask| change!(ask, Open { records = 0 })),
         fault(1, "K = 9", |ask| change!(ask, Open { records = 9 })),
+        fault(1, "layout 0", |ask| change!(ask, Open { layout = 0 })),
+        fault(1, "layout 3", |ask| change!(ask, Open { layout = 3 })),
+        fault(1, "layout 6", |ask| change!(ask, Open { layout = 6 })),
+        fault(1, "layout 255", |ask| change!(ask, Open { layout = 255 })),
+        fault(1, "layout 2^8+4", |ask| change!(ask, Open { layout = (1 << 8) + 4 })),
+        fault(1, "layout 2^16+5", |ask| change!(ask, Open { layout = (1 << 16) + 5 })),
+        fault(1, "layout 2^32+4", |ask| change!(ask, Open { layout = (1 << 32) + 4 })),
+        fault(1, "layout 2^32+5", |ask| change!(ask, Open { layout = (1 << 32) + 5 })),
+        fault(1, "layout 2^63+5", |ask| change!(ask, Open { layout = (1 << 63) + 5 })),
+        fault(1, "layout 2^64-1", |ask| change!(ask, Open { layout = u64::MAX })),
         fault(1, "out = N", |ask| change!(ask, Open { out = 4 })),
         fault(1, "out = 254", |ask| change!(ask, Open { out = 254 })),
         fault(1, "out = 256", |ask| change!(ask, Open { out = 256 })),
@@ -53,7 +83,7 @@ fn open() {
     faults.push(fault(13, "in a stripe that a record of no use holds", |ask| {
         spoil(&mut ask.side, 1, 0, 5)
     }));
-    let accepted = ask(Call::Open { cards: 4, stripes: 5, block: 32, records: 4, out: 255 });
+    let accepted = ask(Call::open(&STATE));
     lowest_wins(accepted.clone(), &faults);
     still_accepted(
         accepted,
@@ -64,6 +94,7 @@ fn open() {
             |ask| ask.side.table[0].phase = 77,
             |ask| ask.side.state.lost = 1,
             |ask| ask.side.state.cards = 9,
+            |ask| ask.side.state.layout = 6,
             |ask| ask.side.state.fill = 0,
             |ask| ask.side.state.fill = 5,
             // With a card out, parity is not looked at.
@@ -187,10 +218,12 @@ fn the_lowest_stripe_and_byte() {
         if stripe < 4 {
             spoil(&mut wrong, 4, 1, 0);
         }
-        let open = Call::Open { cards: 4, stripes: 5, block: 32, records: 4, out: 255 };
-        for call in [Call::Check, Call::Scan, open] {
-            let answer = Pair::new(&calls, wrong.clone()).call(&call, &mut Vec::new()).unwrap();
-            assert_eq!((answer.number, answer.first, answer.second), (13, stripe, byte as u64));
+        for state in STATE.in_both_layouts() {
+            wrong.state = state;
+            for call in [Call::Check, Call::Scan, Call::open(&state)] {
+                let answer = Pair::new(&calls, wrong.clone()).call(&call, &mut Vec::new()).unwrap();
+                assert_eq!((answer.number, answer.first, answer.second), (13, stripe, byte as u64));
+            }
         }
     }
 }

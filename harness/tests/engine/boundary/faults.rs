@@ -24,11 +24,19 @@ pub fn fault(number: u64, what: &'static str, make: fn(&mut Ask)) -> Fault {
     Fault { number, what, make }
 }
 
-/// The numbers of what is lent.
-const STATE: State =
-    State { cards: 4, stripes: 5, block: 32, records: 4, out: 255, lost: 0, fill: NO_FILL };
+/// The numbers of what is lent, in layout 5.
+pub const STATE: State = State {
+    cards: 4,
+    stripes: 5,
+    block: 32,
+    records: 4,
+    layout: 5,
+    out: 255,
+    lost: 0,
+    fill: NO_FILL,
+};
 
-/// What is lent: N = 4, S = 5, B = 32, K = 4, no card out, all bytes zero. Record 0
+/// What is lent: N = 4, S = 5, B = 32, K = 4, no card out, all bytes zero. The table is sound in both layouts: record 0
 /// is an open write on stripe 1, record 1 a finished read of units 0 and 2, record 2 is free, record
 /// 3 is an open read on stripe 4.
 pub fn side() -> Side {
@@ -50,6 +58,21 @@ pub fn side() -> Side {
     side
 }
 
+impl Ask {
+    /// The same in an array of another layout.
+    pub fn in_layout(mut self, number: u64) -> Ask {
+        self.side.state.layout = number;
+        match &mut self.call {
+            Call::Place { layout, .. }
+            | Call::BlockAt { layout, .. }
+            | Call::Open { layout, .. } => *layout = number,
+            _ => {}
+        }
+        self
+    }
+}
+
+/// A call in layout 5 with all that it is lent.
 pub fn ask(call: Call) -> Ask {
     Ask { side: side(), call, result: vec![0xEE; 64] }
 }
@@ -72,6 +95,16 @@ pub fn limits() -> Vec<Fault> {
         fault(1, "B = 528", |ask| ask.side.state.block = 528),
         fault(1, "K = 0", |ask| ask.side.state.records = 0),
         fault(1, "K = 9", |ask| ask.side.state.records = 9),
+        fault(1, "layout 0", |ask| ask.side.state.layout = 0),
+        fault(1, "layout 3", |ask| ask.side.state.layout = 3),
+        fault(1, "layout 6", |ask| ask.side.state.layout = 6),
+        fault(1, "layout 255", |ask| ask.side.state.layout = 255),
+        fault(1, "layout 2^8+4", |ask| ask.side.state.layout = (1 << 8) + 4),
+        fault(1, "layout 2^16+5", |ask| ask.side.state.layout = (1 << 16) + 5),
+        fault(1, "layout 2^32+4", |ask| ask.side.state.layout = (1 << 32) + 4),
+        fault(1, "layout 2^32+5", |ask| ask.side.state.layout = (1 << 32) + 5),
+        fault(1, "layout 2^63+5", |ask| ask.side.state.layout = (1 << 63) + 5),
+        fault(1, "layout 2^64-1", |ask| ask.side.state.layout = u64::MAX),
         fault(1, "out = N", |ask| ask.side.state.out = 4),
         fault(1, "out = 254", |ask| ask.side.state.out = 254),
         fault(1, "out = 256", |ask| ask.side.state.out = 256),

@@ -4,8 +4,8 @@ use super::faults::*;
 use super::{lowest_wins, still_accepted};
 use crate::pair::{Call, Pair};
 use crate::tested;
-use harness::calls::{Answer, Record};
-use harness::plain::NO_FILL;
+use harness::calls::{Answer, Record, State};
+use harness::plain::{LAYOUTS, NO_FILL};
 
 /// A call while card 2 is out and this stripe is to be filled next.
 fn ask_at(call: Call, fill: u64) -> Ask {
@@ -14,9 +14,10 @@ fn ask_at(call: Call, fill: u64) -> Ask {
     ask
 }
 
-/// Record 0 as it is when it was chosen with card 2, which has the parity of stripe 1.
+/// Record 0 as it is when it was chosen with card 2, which has the parity of stripe 1 in layout 5, and unit 2 in layout 4.
 fn chosen_with_card_2(ask: &mut Ask) {
-    ask.side.table[0] = Record { graph: 6, chosen: 2, done: 0, ..ask.side.table[0] };
+    let graph = if ask.side.state.layout == 4 { 3 } else { 6 };
+    ask.side.table[0] = Record { graph, chosen: 2, done: 0, ..ask.side.table[0] };
 }
 
 #[test]
@@ -86,7 +87,7 @@ fn rebuild() {
     );
 }
 
-/// What each of both answers and leaves: the stripe and the next place, and at the last stripe no card out.
+/// What each of both answers and leaves: the stripe and the next place, at the last stripe no card out, and the layout as it was.
 #[test]
 fn what_they_answer_and_leave() {
     let calls = tested();
@@ -99,11 +100,13 @@ fn what_they_answer_and_leave() {
         (Call::Report { card: 2 }, 0, Answer::accepted(0, 0), 2, 65_535),
         (Call::Report { card: 2 }, 4, Answer::accepted(0, 0), 2, 65_535),
     ] {
-        let mut side = ask_at(call.clone(), from).side;
-        side.table[3] = Record::default();
-        let mut pair = Pair::new(&calls, side);
-        assert_eq!(pair.call(&call, &mut Vec::new()), Ok(answer), "{call:?} from {from}");
-        let state = pair.theirs.state;
-        assert_eq!((state.out, state.fill, state.lost), (out, fill, 0), "{call:?} from {from}");
+        for layout in LAYOUTS {
+            let mut side = ask_at(call.clone(), from).in_layout(layout).side;
+            side.table[3] = Record::default();
+            let mut pair = Pair::new(&calls, side);
+            assert_eq!(pair.call(&call, &mut Vec::new()), Ok(answer), "{call:?} from {from}");
+            let left = State { layout, out, fill, ..STATE };
+            assert_eq!(pair.theirs.state, left, "{call:?} from {from}");
+        }
     }
 }

@@ -2,6 +2,7 @@
 //!
 //! The expected numbers are the paper's, not the plain engine's. A fault is one change to a call
 //! that would be accepted; it lies just beyond a limit, and next to it the call is accepted still.
+//! All of it is asked in both layouts.
 
 mod array;
 mod faults;
@@ -11,6 +12,7 @@ mod requests;
 use crate::pair::Pair;
 use crate::tested;
 use faults::{Ask, Fault};
+use harness::plain::LAYOUTS;
 
 /// The calls' own numbers, changed in place.
 macro_rules! change {
@@ -21,8 +23,15 @@ macro_rules! change {
 
 use change;
 
-/// Each fault alone gives its number, and any two give the one that is tested first.
+/// Each fault alone gives its number, and any two give the one that is tested first; in both layouts.
 fn lowest_wins(accepted: Ask, faults: &[Fault]) {
+    LAYOUTS
+        .into_iter()
+        .for_each(|layout| lowest_wins_in(accepted.clone().in_layout(layout), faults));
+}
+
+/// The same in the layout of this call.
+fn lowest_wins_in(accepted: Ask, faults: &[Fault]) {
     let calls = tested();
     let asked = |ask: &Ask| {
         let mut result = ask.result.clone();
@@ -44,14 +53,16 @@ fn lowest_wins(accepted: Ask, faults: &[Fault]) {
     }
 }
 
-/// These changes are still within the limits.
+/// These changes are still within the limits, in both layouts.
 fn still_accepted(accepted: Ask, changes: &[fn(&mut Ask)]) {
     let calls = tested();
     for (at, change) in changes.iter().enumerate() {
-        let mut ask = accepted.clone();
-        change(&mut ask);
-        let mut result = ask.result.clone();
-        let answer = Pair::new(&calls, ask.side).call(&ask.call, &mut result).unwrap();
-        assert_eq!(answer.number, 0, "change {at} of {:?}", accepted.call);
+        for layout in LAYOUTS {
+            let mut ask = accepted.clone().in_layout(layout);
+            change(&mut ask);
+            let mut result = ask.result.clone();
+            let answer = Pair::new(&calls, ask.side).call(&ask.call, &mut result).unwrap();
+            assert_eq!(answer.number, 0, "change {at} of {:?} in layout {layout}", accepted.call);
+        }
     }
 }

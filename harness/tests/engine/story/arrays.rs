@@ -3,9 +3,10 @@
 use crate::pair::Side;
 use harness::calls::State;
 use harness::plain::blocks::make_right;
+use harness::plain::LAYOUTS;
 use harness::random::Random;
 
-/// Numbers of an array of moderate size: any N, few stripes, any B, any K.
+/// Numbers of an array of moderate size: any N, few stripes, any B, any K, either layout.
 pub fn some_state(random: &mut Random) -> State {
     let cards = random.between(3, 8);
     let sixteens = match random.below(4) {
@@ -15,8 +16,9 @@ pub fn some_state(random: &mut Random) -> State {
     };
     let stripes = if random.chance(1, 20) { random.between(20, 40) } else { random.between(1, 10) };
     let records = random.between(1, 8);
+    let layout = random.pick(&LAYOUTS);
     let out = if random.chance(1, 4) { random.below(cards) } else { 255 };
-    State { records, out, ..State::whole(cards, stripes, 16 * sixteens) }
+    State { records, layout, out, ..State::whole(cards, stripes, 16 * sixteens) }
 }
 
 /// Buffers for these numbers, filled with noise, but with right parity in every stripe.

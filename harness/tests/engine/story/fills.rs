@@ -59,6 +59,7 @@ impl Story<'_> {
             if last {
                 self.known = State { out: 255, fill: NO_FILL, ..state };
                 self.filled = Some(state.out);
+                self.tally.note("filled to the end, layout", state.layout);
                 self.tally.note("filled to the end", self.open_records().len().min(1) as u64);
             }
         }

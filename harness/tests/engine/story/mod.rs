@@ -68,13 +68,24 @@ impl<'a> Story<'a> {
             filled: None,
             tally: Tally::default(),
         };
+        story.tally.note("layout", state.layout);
+        story.open_in_no_layout(state)?;
         story.open_wrongly(state)?;
-        let State { cards, stripes, block, records, out, .. } = state;
-        let opened = story.call(Call::Open { cards, stripes, block, records, out })?;
+        let opened = story.call(Call::open(&state))?;
         story.expect(opened.number == 0, "the array opens")?;
         story.state_is_known()?;
         story.pair.decays_apart = story.random.chance(1, 2);
         Ok(story)
+    }
+
+    /// Now and then asks for a layout that there is not: that is refused.
+    fn open_in_no_layout(&mut self, state: State) -> Result<(), String> {
+        if !self.random.chance(1, 8) {
+            return Ok(());
+        }
+        let layout = self.random.pick(&[0, 3, 6, 255, (1 << 32) + 4, (1 << 32) + 5, u64::MAX]);
+        let answer = self.call(Call::open(&State { layout, ..state }))?;
+        self.expect(answer == Answer::refused(1), "there is no such layout")
     }
 
     /// Now and then spoils one byte first: it is found if no card is out, and put back.
@@ -82,13 +93,13 @@ impl<'a> Story<'a> {
         if !self.random.chance(1, 3) {
             return Ok(());
         }
-        let State { cards, stripes, block, records, out, .. } = state;
+        let State { stripes, block, out, .. } = state;
         let at = self.random.below(state.image_length()) as usize;
         let flip = self.random.between(1, 255) as u8;
         self.pair.theirs.image[at] ^= flip;
         self.pair.ours.image[at] ^= flip;
         let before = self.pair.theirs.table.clone();
-        let answer = self.call(Call::Open { cards, stripes, block, records, out })?;
+        let answer = self.call(Call::open(&state))?;
         if out == 255 {
             let stripe = at as u64 / block % stripes;
             let found = Answer { number: 13, first: stripe, second: at as u64 % block };

@@ -5,6 +5,15 @@ use crate::pair::Call;
 use harness::calls::Answer;
 use harness::plain::Record;
 
+/// The one name or the other, by the layout.
+fn in_layout(layout: u64, four: &'static str, five: &'static str) -> &'static str {
+    if layout == 4 {
+        four
+    } else {
+        five
+    }
+}
+
 impl Story<'_> {
     pub(super) fn some_mask(&mut self) -> u64 {
         let all = (1 << self.state().units()) - 1;
@@ -35,6 +44,7 @@ impl Story<'_> {
             self.expect(answer.first == free as u64, "the lowest free record is taken")?;
             let graph = self.record(answer.first).graph;
             self.tally.note("graph", graph);
+            self.tally.note(in_layout(state.layout, "graph, layout 4", "graph, layout 5"), graph);
             if state.filling() {
                 let place =
                     if stripe < state.fill { "graph, filled" } else { "graph, to be filled" };
@@ -79,7 +89,9 @@ impl Story<'_> {
         }
         let now = self.record(record);
         if answer.first != 0 {
-            self.tally.note("afresh", 10 * graph.unwrap_or(0) + answer.first);
+            let (layout, ways) = (self.state().layout, 10 * graph.unwrap_or(0) + answer.first);
+            self.tally.note("afresh", ways);
+            self.tally.note(in_layout(layout, "afresh, layout 4", "afresh, layout 5"), ways);
             self.expect(now.graph == answer.first, "the answer names the new graph")?;
         }
         let longest = 2 * self.state().units() + 3;

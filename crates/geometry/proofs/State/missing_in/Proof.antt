@@ -16,7 +16,7 @@ missing-at-requires c κs = search needs
 returns : tie.Need-returns
 returns c =
     let a = c .before .before .args in
-    c .missing-at .ensures ∙ ap (λ (k : ℕ). missingAt (a .self .cards) (a .stripe) k) (c .before .out-in .ensures)
+    c .missing-at .ensures ∙ ap (λ (k : ℕ). missingAt (a .self .cards) (a .self .layout) (a .stripe) k) (c .before .out-in .ensures)
 
 pub missing-in-spec : {M : Type 1} → statement M
 missing-in-spec = tie.close (tie.spec out-in-requires missing-at-requires returns)

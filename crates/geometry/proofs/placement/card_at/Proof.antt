@@ -1,34 +1,18 @@
--- `geometry::placement::card_at` meets its contract, by the laws of the turns.
+-- `geometry::placement::card_at` meets its contract.
 -- Assumes nothing.
 use mathlib.Core.Path.{sym, _∙_}
-use native.Mathlib.Nat.{le-of-lt}
-use borrow.Author.Needs.{needs}
 use Rattle.geometry.proofs.Placing.{cardIn-is, cardIn-none}
-use Rattle.geometry.proofs.Turns.{turn-below, card-before, card-from}
 use Rattle.geometry.proofs.placement.card_at.Statement.{statement}
 use Rattle.geometry.proofs.placement.card_at.Tie as tie
 
 returns : tie.Need-returns
-returns c = sym (cardIn-none _ _ _ (c .if1 .taken))
+returns c = sym (cardIn-none _ _ _ _ (c .if1 .taken))
 
-rem-turn : tie.Need-rem-turn
-rem-turn c = search needs
-
-sub-result : tie.Need-sub-result
-sub-result c = le-of-lt (turn-below _ _ _ (c .before .if1 .left))
-
-add-result : tie.Need-add-result
-add-result c = search needs
+card-of-requires : tie.Need-card-of-requires
+card-of-requires c κs = c .if1 .left
 
 returns-2 : tie.Need-returns-2
-returns-2 c =
-    let h = c .before .if1 .left in
-    sym (cardIn-is _ _ _ h ∙ card-before _ _ _ h (c .if2 .taken))
-
-returns-3 : tie.Need-returns-3
-returns-3 c =
-    let h = c .before .if1 .left in
-    sym (cardIn-is _ _ _ h ∙ card-from _ _ _ h (c .if2 .left))
+returns-2 c = c .card-of .ensures ∙ sym (cardIn-is _ _ _ _ (c .before .if1 .left))
 
 pub card-at-spec : {M : Type 1} → statement M
-card-at-spec = tie.close (tie.spec returns rem-turn sub-result add-result returns-2 returns-3)
+card-at-spec = tie.close (tie.spec returns card-of-requires returns-2)

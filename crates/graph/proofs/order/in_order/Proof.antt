@@ -1,4 +1,4 @@
--- `in_order` meets its contract: it makes the six tests of `InOrder`, one after the other.
+-- `in_order` meets its contract: it makes the five tests of `InOrder`, one after the other.
 -- Assumes nothing.
 use Prim.Native.Nat.{ℕ, _+_, _*_, _/_, _^_}
 use mathlib.Core.Bool.{Bool, true, false, not, _||_}
@@ -15,25 +15,11 @@ use Rattle.graph.proofs.InOrder.{written, InOrder, decided, refused}
 use Rattle.graph.proofs.order.in_order.Statement.{statement}
 use Rattle.graph.proofs.order.in_order.Tie as tie
 
-mul-only : tie.Need-mul-only
-mul-only c = search needs
-
-add-only : tie.Need-add-only
-add-only c = search needs
-
-only-requires : tie.Need-only-requires
-only-requires c κs = search needs
-
 returns : tie.Need-returns
 returns c =
-    let a = c .before .before .args in
-    refused (a .n) (a .g) (a .mask) (a .x) (a .done) (λ o. omega (arith, o .bound, c .before .only .ensures, c .if1 .taken))
-
-returns-2 : tie.Need-returns-2
-returns-2 c =
-    let s = c .before .before .before in
+    let s = c .before in
     let a = s .args in
-    refused (a .n) (a .g) (a .mask) (a .x) (a .done) (λ o. c .if2 .taken (ap (bitAnd (a .done)) (s .pre .2) ∙ o .subset))
+    refused (a .n) (a .g) (a .mask) (a .x) (a .done) (λ o. c .if1 .taken (ap (bitAnd (a .done)) (s .pre .2) ∙ o .subset))
 
 add-has : tie.Need-add-has
 add-has c = search needs
@@ -44,10 +30,10 @@ has-requires c κs = search needs
 implies-requires : tie.Need-implies-requires
 implies-requires c κs = search needs
 
-abbrev start : tie.Else2 → tie.Start
-start c = c .before .before .before
+abbrev start : tie.Else1 → tie.Start
+start c = c .before
 
-abbrev last : tie.Else4 → tie.Start
+abbrev last : tie.Else3 → tie.Start
 last c = start (c .before .before .before .before .before .before .before)
 
 fails : {r a b : Bool} → r ≡ (not a || b) → r ≡ false → (a ≡ true → b ≡ true) → ⊥
@@ -70,7 +56,7 @@ parity-test : (c : tie.After-implies2)
 parity-test c = c .implies2 .ensures ∙ ap₂ (λ (s t : Bool). not s || t) (c .before .before .has2 .ensures) (c .before .has3 .ensures)
 
 -- past the tests of the exclusive or and of parity's write, those of units' writes are left
-so-far : (c : tie.Else4)
+so-far : (c : tie.Else3)
     → let a = last c .args in
     let old : ℕ = setOf (a .n + 1) (reads (a .n) (a .g) (a .mask) (a .x)) in
     (a .g ≡ 3 → bitAnd (written (a .n) (a .done)) (a .done) ≡ written (a .n) (a .done))
@@ -82,20 +68,19 @@ so-far c small reconstruct =
     let e = i .before .before in
     let s = start e in
     record {
-      bound = omega (arith, e .before .if1 .left, e .before .before .only .ensures);
-      subset = ap (bitAnd (s .args .done)) (sym (s .pre .2)) ∙ e .if2 .left;
-      summed = λ b. eqb-true _ _ (or-not-elim _ _ (sym (sum-test i) ∙ not-false (i .implies .result) (t .if3 .left)) b);
-      parity = or-not-elim _ _ (sym (parity-test (c .before)) ∙ not-false (c .before .implies2 .result) (c .if4 .left));
+      subset = ap (bitAnd (s .args .done)) (sym (s .pre .2)) ∙ e .if1 .left;
+      summed = λ b. eqb-true _ _ (or-not-elim _ _ (sym (sum-test i) ∙ not-false (i .implies .result) (t .if2 .left)) b);
+      parity = or-not-elim _ _ (sym (parity-test (c .before)) ∙ not-false (c .before .implies2 .result) (c .if3 .left));
       small = small;
       reconstruct = reconstruct;
     }
 
-returns-3 : tie.Need-returns-3
-returns-3 c =
+returns-2 : tie.Need-returns-2
+returns-2 c =
     let i = c .before in
     let a = start (i .before .before) .args in
     refused (a .n) (a .g) (a .mask) (a .x) (a .done)
-    (λ o. fails (sum-test i) (not-true (i .implies .result) (c .if3 .taken)) (λ b. eq-eqb _ _ (o .summed b)))
+    (λ o. fails (sum-test i) (not-true (i .implies .result) (c .if2 .taken)) (λ b. eq-eqb _ _ (o .summed b)))
 
 mul-has : tie.Need-mul-has
 mul-has c = search needs
@@ -115,12 +100,12 @@ has-requires-3 c κs = search needs
 implies-requires-2 : tie.Need-implies-requires-2
 implies-requires-2 c κs = search needs
 
-returns-4 : tie.Need-returns-4
-returns-4 c =
+returns-3 : tie.Need-returns-3
+returns-3 c =
     let i = c .before in
     let a = start (i .before .before .before .before .before .before) .args in
     refused (a .n) (a .g) (a .mask) (a .x) (a .done)
-    (λ o. fails (parity-test i) (not-true (i .implies2 .result) (c .if4 .taken)) (o .parity))
+    (λ o. fails (parity-test i) (not-true (i .implies2 .result) (c .if3 .taken)) (o .parity))
 
 add-written : tie.Need-add-written
 add-written c = search needs
@@ -131,21 +116,21 @@ shr-written c = search needs
 below-requires : tie.Need-below-requires
 below-requires c κs = search needs
 
-returns-5 : tie.Need-returns-5
-returns-5 c =
+returns-4 : tie.Need-returns-4
+returns-4 c =
     let e = c .before .before in
     let a = last e .args in
     let w = written (a .n) (a .done) in
     rw (c .before .below .ensures)
     (decided (a .n) (a .g) (a .mask) (a .x) (a .done) (eqb (bitAnd w (a .done)) w)
-    (λ t. so-far e (λ q. eqb-true _ _ t) (λ q. absurd (omega (arith, q, c .if5 .taken))))
-    (λ o. eq-eqb _ _ (o .small (c .if5 .taken))))
+    (λ t. so-far e (λ q. eqb-true _ _ t) (λ q. absurd (omega (arith, q, c .if4 .taken))))
+    (λ o. eq-eqb _ _ (o .small (c .if4 .taken))))
 
 implies-requires-3 : tie.Need-implies-requires-3
 implies-requires-3 c κs = search needs
 
-returns-6 : tie.Need-returns-6
-returns-6 c =
+returns-5 : tie.Need-returns-5
+returns-5 c =
     let e = c .before .before .before .before in
     let s = last e in
     let a = s .args in
@@ -157,42 +142,38 @@ returns-6 c =
     (s .pre .1))
     ∙ decided (a .n) (a .g) (a .mask) (a .x) (a .done) (not (not (eqb w 0)) || eqb (bitAnd old (a .done)) old)
     (λ t.
-    so-far e (λ q. absurd (omega (arith, q, c .before .if6 .taken)))
+    so-far e (λ q. absurd (omega (arith, q, c .before .if5 .taken)))
     (λ q z. eqb-true _ _ (or-not-elim (not (eqb w 0)) (eqb (bitAnd old (a .done)) old) t (ap not (ne-eqb w 0 z)))))
     (λ o.
     or-not-intro (not (eqb w 0)) (eqb (bitAnd old (a .done)) old)
-    (λ q. eq-eqb _ _ (o .reconstruct (c .before .if6 .taken) (eqb-false w 0 (not-true (eqb w 0) q)))))
+    (λ q. eq-eqb _ _ (o .reconstruct (c .before .if5 .taken) (eqb-false w 0 (not-true (eqb w 0) q)))))
 
-returns-7 : tie.Need-returns-7
-returns-7 c =
+returns-6 : tie.Need-returns-6
+returns-6 c =
     let e = c .before .before .before in
     let a = last e .args in
-    decided (a .n) (a .g) (a .mask) (a .x) (a .done) true (λ t. so-far e (λ q. absurd (c .before .if5 .left q)) (λ q. absurd (c .if6 .left q))) (λ o. refl)
+    decided (a .n) (a .g) (a .mask) (a .x) (a .done) true (λ t. so-far e (λ q. absurd (c .before .if4 .left q)) (λ q. absurd (c .if5 .left q))) (λ o. refl)
 
 pub in-order-spec : {M : Type 1} → statement M
 in-order-spec =
     tie.close
     (tie.spec
-    mul-only
-    add-only
-    only-requires
     returns
-    returns-2
     add-has
     has-requires
     implies-requires
-    returns-3
+    returns-2
     mul-has
     add-has-2
     has-requires-2
     add-has-3
     has-requires-3
     implies-requires-2
-    returns-4
+    returns-3
     add-written
     shr-written
     below-requires
-    returns-5
+    returns-4
     implies-requires-3
-    returns-6
-    returns-7)
+    returns-5
+    returns-6)

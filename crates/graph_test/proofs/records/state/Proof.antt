@@ -26,16 +26,20 @@ at-requires-6 c κs = search needs
 at-requires-7 : tie.Need-at-requires-7
 at-requires-7 c κs = search needs
 
+at-requires-8 : tie.Need-at-requires-8
+at-requires-8 c κs = search needs
+
 returns : tie.Need-returns
 unfolding stateFrom
 returns c = λ i. record {
-  cards = c .before .before .before .before .before .before .at .ensures i;
-  stripes = c .before .before .before .before .before .at2 .ensures i;
-  block = c .before .before .before .before .at3 .ensures i;
-  records = c .before .before .before .at4 .ensures i;
-  out = c .before .before .at5 .ensures i;
-  lost = c .before .at6 .ensures i;
-  fill = c .at7 .ensures i;
+  cards = c .before .before .before .before .before .before .before .at .ensures i;
+  stripes = c .before .before .before .before .before .before .at2 .ensures i;
+  block = c .before .before .before .before .before .at3 .ensures i;
+  records = c .before .before .before .before .at4 .ensures i;
+  layout = c .before .before .before .at5 .ensures i;
+  out = c .before .before .at6 .ensures i;
+  lost = c .before .at7 .ensures i;
+  fill = c .at8 .ensures i;
 }
 
 pub state-spec : {M : Type 1} → statement M
@@ -49,4 +53,5 @@ state-spec =
     at-requires-5
     at-requires-6
     at-requires-7
+    at-requires-8
     returns)

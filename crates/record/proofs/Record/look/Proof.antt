@@ -44,7 +44,7 @@ returns-2 c =
     c .looked .ensures
     ∙ busy-by (a .state) (a .self) _ _ now
     ∙ ap (λ (out : ℕ). cond (soundRecordIn (a .state) (a .self)) (found (a .state) (a .self) out) (nothing false))
-    (c .before .missing-now .ensures ∙ ap (missingAt (a .state .cards) (a .self .stripe)) now)
+    (c .before .missing-now .ensures ∙ ap (missingAt (a .state .cards) (a .state .layout) (a .self .stripe)) now)
     ∙ sym (look-busy (a .state) (a .self) (ne-eqb (a .self .phase) 0 (e .if1 .left)))
 
 pub look-spec : {M : Type 1} → statement M

@@ -45,7 +45,7 @@ from5 c = from4 (c .before .before .before)
 
 -- the state that its numbers stand for
 abbrev as-seen : tie.Start → State
-as-seen s = seenAs (s .args .cards) (s .args .stripes) (s .args .now)
+as-seen s = seenAs (s .args .cards) (s .args .stripes) (s .args .layout) (s .args .now)
 
 -- what the tests that are passed say of the record
 few-at : (c : tie.Else1) → fewIn (as-seen (from1 c)) ≡ true

@@ -10,7 +10,7 @@ returns : tie.Need-returns
 returns c =
     let s = c .before .before in
     let a = s .args in
-    s .pre ∙ ap (missingAt (a .cards) (a .self .stripe)) (c .if1 .taken)
+    s .pre ∙ ap (missingAt (a .cards) (a .layout) (a .self .stripe)) (c .if1 .taken)
 
 missing-at-requires : tie.Need-missing-at-requires
 missing-at-requires c κs = search needs

@@ -12,7 +12,7 @@ use Rattle.text.proofs.line.write_line.Statement.{statement}
 use Rattle.text.proofs.line.write_line.Tie as tie
 
 -- past the test of the limits they hold
-legal : (e : tie.Else2) → beyondPlaces (e .before .before .before .before .args .cards) (e .before .before .before .before .args .stripes) ≡ false
+legal : (e : tie.Else2) → beyondPlaces (e .before .before .before .before .args .cards) (e .before .before .before .before .args .stripes) 5 ≡ false
 legal e = sym (e .before .beyond .ensures) ∙ e .if2 .left
 
 returns : tie.Need-returns
@@ -35,7 +35,7 @@ put-cards-requires c κs =
     let ok = legal (c .before .before .before .before .before .before) in
     let below = c .before .before .before .before .before .if3 .left in
     let call = c .before .before .before .put-number in
-    (ok, (below, omega (arith, stripe-size _ _ _ ok below, places-bounds _ _ ok, call .ensures .0, call .kept .1 .0)))
+    (ok, (below, omega (arith, stripe-size _ _ _ ok below, places-bounds _ _ _ ok, call .ensures .0, call .kept .1 .0)))
 
 slice-write-out : tie.Need-slice-write-out
 slice-write-out c =

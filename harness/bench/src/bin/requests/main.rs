@@ -61,8 +61,9 @@ pub struct Bench {
 impl Bench {
     fn new(task: &Task) -> Bench {
         let Task { cards, block, .. } = *task;
-        let out = task.out.map_or(255, |position| card_at(cards, 0, position));
-        let state = State { records: RECORDS, out, ..State::whole(cards, STRIPES, block) };
+        let whole = State { records: RECORDS, ..State::whole(cards, STRIPES, block) };
+        let out = task.out.map_or(255, |position| card_at(&whole, 0, position));
+        let state = State { out, ..whole };
         let mut random = Random::new(cards);
         let mut image = random.bytes(state.image_length() as usize);
         make_right(&state, &mut image);

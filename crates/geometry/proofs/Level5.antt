@@ -1,19 +1,19 @@
--- The left-symmetric layout is a placement: in each stripe positions and cards are in bijection, and the last position is the parity card's.
+-- Layout 5, the left-symmetric one, is a placement: in each stripe positions and cards are in bijection, and the last position is the parity card's.
 -- Assumes nothing.
 use Prim.Native.Nat.{ℕ, zero, _+_, _-_, _%_, _<_}
 use mathlib.Core.Path.{_≡_, ap, _∙_}
 use native.Mathlib.Nat.{mod-lt, mod-eq-of-lt, mod-add-mod, add-mod-mod, add-mod-left, add-mod-right}
 use native.Mathlib.Omega.{arith}
-use Rattle.geometry.specs.Placement.{parityCard, cardAt, positionOf}
+use Rattle.geometry.specs.Level5.{parityCard, cardAt5, positionOf5}
 use Rattle.geometry.specs.Placing.{Placing}
 
 module _ (N : ℕ) (some : zero < N) where
-  pub cardAt-below : (s j : ℕ) → cardAt N s j < N
-  unfolding cardAt
+  pub cardAt-below : (s j : ℕ) → cardAt5 N s j < N
+  unfolding cardAt5
   cardAt-below s j = mod-lt (parityCard N s + 1 + j) some
 
-  pub positionOf-below : (s c : ℕ) → positionOf N s c < N
-  unfolding positionOf
+  pub positionOf-below : (s c : ℕ) → positionOf5 N s c < N
+  unfolding positionOf5
   positionOf-below s c = mod-lt (c + s % N) some
 
   -- the turn of stripe s one way and back is one whole turn
@@ -24,24 +24,24 @@ module _ (N : ℕ) (some : zero < N) where
       let e : parityCard N s + 1 + i + s % N ≡ N + i = omega arith in
       ap (λ (k : ℕ). k % N) e ∙ add-mod-left N i ∙ mod-eq-of-lt h
 
-  pub positionOf-cardAt : (s j : ℕ) → j < N → positionOf N s (cardAt N s j) ≡ j
-  unfolding cardAt positionOf
+  pub positionOf-cardAt : (s j : ℕ) → j < N → positionOf5 N s (cardAt5 N s j) ≡ j
+  unfolding cardAt5 positionOf5
   positionOf-cardAt s j h = mod-add-mod (parityCard N s + 1 + j) N (s % N) ∙ turned s j h
 
-  pub cardAt-positionOf : (s c : ℕ) → c < N → cardAt N s (positionOf N s c) ≡ c
-  unfolding cardAt positionOf
+  pub cardAt-positionOf : (s c : ℕ) → c < N → cardAt5 N s (positionOf5 N s c) ≡ c
+  unfolding cardAt5 positionOf5
   cardAt-positionOf s c h =
       let e : parityCard N s + 1 + (c + s % N) ≡ parityCard N s + 1 + c + s % N = omega arith in
       add-mod-mod (parityCard N s + 1) (c + s % N) N ∙ ap (λ (k : ℕ). k % N) e ∙ turned s c h
 
   -- position n comes to the parity card
-  pub cardAt-parity : (s : ℕ) → cardAt N s (N - 1) ≡ parityCard N s
-  unfolding cardAt parityCard
+  pub cardAt-parity : (s : ℕ) → cardAt5 N s (N - 1) ≡ parityCard N s
+  unfolding cardAt5 parityCard
   cardAt-parity s =
       let e : parityCard N s + 1 + (N - 1) ≡ parityCard N s + N = omega arith in
       ap (λ (k : ℕ). k % N) e ∙ add-mod-right (parityCard N s) N ∙ mod-eq-of-lt (omega arith)
 
-  pub left-symmetric : Placing N (cardAt N) (positionOf N)
+  pub left-symmetric : Placing N (cardAt5 N) (positionOf5 N)
   left-symmetric =
       record {
         card-below = λ s j h. cardAt-below s j;
