@@ -1,12 +1,13 @@
 -- What placement answers in each case, as the code finds them.
 -- Assumes nothing.
 use Prim.Native.Nat.{ℕ, _-_, _*_, _≤_, _<_}
-use mathlib.Core.Bool.{true, false}
-use mathlib.Core.Path.{_≡_}
+use mathlib.Core.Bool.{Bool, true, false, cond}
+use mathlib.Core.Path.{_≡_, refl}
 use native.Mathlib.Nat.{mul-le-mul, le-trans}
 use native.Mathlib.Omega.{arith}
+use lib.Dec.{leb}
 use borrow.Author.Tests.{le-leb, lt-leb, eq-eqb, ne-eqb}
-use Rattle.terms.specs.Reply.{firstRow, accepted, refused}
+use Rattle.terms.specs.Reply.{firstRow, onAccept, accepted, refused}
 use Rattle.geometry.specs.Answers.{placesOf, beyondPlaces, placeRefusal, placeReply, blockAtRefusal, blockAtReply}
 use Rattle.geometry.specs.Limits.{none}
 use Rattle.geometry.specs.Placement.{stripeOf, cardOf, blockOf, positionOf}
@@ -36,6 +37,15 @@ module _ (N S layout : ℕ) where
     pub place-found : beyondPlaces N S layout ≡ false → L < (N - 1) * S → placeReply N S layout L ≡ accepted (cardOf N layout L) (stripeOf N L)
     unfolding placeReply placeRefusal firstRow
     place-found e h = simp (e, lt-leb _ _ h)
+
+    -- the last two as one test, with the block's card found in another way
+    pub place-tested : (c : ℕ) → beyondPlaces N S layout ≡ false → cardOf N layout L ≡ c → cond (leb ((N - 1) * S) L) (refused 5) (accepted c (stripeOf N L)) ≡ placeReply N S layout L
+    unfolding placeReply placeRefusal firstRow
+    place-tested c e f = rw (e, f) (go (leb ((N - 1) * S) L))
+      where
+        go : (t : Bool) → cond t (refused 5) (accepted c (stripeOf N L)) ≡ onAccept (cond t 5 0) (accepted c (stripeOf N L)) (refused (cond t 5 0))
+        go true = refl
+        go false = refl
 
   module _ (c s : ℕ) where
     pub block-at-beyond : beyondPlaces N S layout ≡ true → blockAtReply N S layout c s ≡ refused 1

@@ -3,21 +3,21 @@
 -- No proof above geometry looks into a layout, or uses more of one than stands here; but for examples, which compute.
 --
 -- What another layout gives: its definition, in specs beside Level4 and Level5; its law, `Placing` of that definition, in proofs beside theirs; and its
--- number, by which `cardAt` and `positionOf`, `placed` below and the code of `card_of` and `position_of` choose, and which `legalLayout` lets in.
+-- number, by which `cardAt` and `positionOf`, `placed` below and the code of `card_of`, `position_of` and `place` choose, and which `legalLayout` lets in.
 -- Assumes nothing.
-use Prim.Native.Nat.{ℕ, zero, _≤_, _<_}
+use Prim.Native.Nat.{ℕ, zero, _-_, _%_, _≤_, _<_}
 use mathlib.Core.Bool.{Bool, true, false, cond}
 use mathlib.Core.Path.{_≡_, refl, sym, ap, _∙_}
 use native.Mathlib.Omega.{arith}
-use borrow.Author.Tests.{lt-ltb, le-ltb, ltb-true}
+use borrow.Author.Tests.{lt-ltb, le-ltb, ltb-true, eq-eqb, ne-eqb}
 use lib.Dec.{ltb, eqb}
 use Rattle.geometry.specs.Level4.{cardAt4, positionOf4}
 use Rattle.geometry.specs.Level5.{cardAt5, positionOf5}
-use Rattle.geometry.specs.Placement.{cardAt, cardIn, positionOf, missingAt, cardOfPosition, positionOfCard, Missing, outIn}
+use Rattle.geometry.specs.Placement.{cardAt, cardIn, cardOf, positionOf, missingAt, cardOfPosition, positionOfCard, Missing, outIn}
 use Rattle.geometry.specs.Placing.{Placing}
 use Rattle.geometry.specs.declared.State.{State}
 use Rattle.geometry.proofs.Level4.{unrotated}
-use Rattle.geometry.proofs.Level5.{left-symmetric}
+use Rattle.geometry.proofs.Level5.{cardAt-block, left-symmetric}
 
 -- ---- of any placement
 
@@ -50,6 +50,16 @@ placed N layout some = go (eqb layout 4)
     go : (four : Bool) → Placing N (λ s j. cond four (cardAt4 j) (cardAt5 N s j)) (λ s c. cond four (positionOf4 c) (positionOf5 N s c))
     go true = unrotated N
     go false = left-symmetric N some
+
+-- the card of a block without its unit and its stripe: layout 4 deals the blocks to n cards in turn, layout 5 to N
+module _ (N layout L : ℕ) where
+  pub cardOf-4 : layout ≡ 4 → cardOf N layout L ≡ L % (N - 1)
+  unfolding cardAt cardAt4
+  cardOf-4 e = rw (eq-eqb layout 4 e)
+
+  pub cardOf-5 : zero < N → ¬ (layout ≡ 4) → cardOf N layout L ≡ L % N
+  unfolding cardAt
+  cardOf-5 some e = rw (ne-eqb layout 4 e) (cardAt-block N some L)
 
 module _ (N layout s i : ℕ) where
   -- the total forms: at a position or a card, and where there is none

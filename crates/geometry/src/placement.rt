@@ -1,7 +1,10 @@
 // Placement by the layout's number, both ways, and the one answer to which card is missing in a stripe.
 // Assumes nothing.
 ghost use mathlib.Core.Path.{_≡_};
-ghost use Prim.Native.Nat.{_<_};
+ghost use mathlib.Core.Bool.{cond};
+ghost use Prim.Native.Nat.{_*_, _/_, _%_, _≤_, _<_};
+ghost use lib.Dec.{leb};
+ghost use Rattle.terms.specs.Reply.{accepted, refused};
 ghost use Rattle.geometry.specs.Level5.{cardAt5, positionOf5};
 ghost use Rattle.geometry.specs.Placement.{cardAt, positionOf, cardIn, missingAt, outIn};
 ghost use Rattle.geometry.specs.Answers.{placesOf, beyondPlaces, placedReply, placeReply, heldReply, blockAtReply};
@@ -103,6 +106,20 @@ impl State {
     }
 }
 
+// Where a block is, if n blocks make a stripe and the blocks are dealt to so many cards in turn: in stripe L div n, on card L mod that number. The
+// range is tested here, in each layout: behind one test for both the compiler joins their remainders, and layout 4 divides once more.
+fn dealt(units: u64, stripes: u64, cards: u64, block: u64) -> Placed
+    requires { ⌜ (0 < units) × (0 < cards) × (units * stripes ≤ 7168) ⌝ }
+    ensures { λ r. ⌜ placedReply r ≡ cond (leb (units * stripes) block) (refused 5) (accepted (block % cards) (block / units)) ⌝ }
+{
+    if units * stripes <= block {
+        return Placed::OutOfRange;
+    }
+    let card = block % cards;
+    let stripe = block / units;
+    Placed::At { card, stripe }
+}
+
 impl Geometry {
     // A geometry of so many cards and stripes and this layout, for placement: B is taken as 16, K as 1.
     pub fn places(cards: u64, stripes: u64, layout: u64) -> Geometry
@@ -124,7 +141,7 @@ impl Geometry {
         Geometry::places(self.cards, self.stripes, self.layout).beyond(NONE)
     }
 
-    // The card and the stripe of a logical block.
+    // The card and the stripe of a logical block: layout 4 deals the blocks to the first n cards, layout 5 to all N.
     pub fn place(self, block: u64) -> Placed
         ensures { λ r. ⌜ placedReply r ≡ placeReply (self .cards) (self .stripes) (self .layout) block ⌝ }
     {
@@ -133,13 +150,12 @@ impl Geometry {
         }
         let cards = self.cards;
         let stripes = self.stripes;
+        let layout = self.layout;
         let units = cards - 1;
-        if units * stripes <= block {
-            return Placed::OutOfRange;
+        if layout == LEVEL_4 {
+            return dealt(units, stripes, units, block);
         }
-        let stripe = block / units;
-        let card = card_of(cards, self.layout, stripe, block % units);
-        Placed::At { card, stripe }
+        dealt(units, stripes, cards, block)
     }
 
     // What a card holds in a stripe: a logical block's number, or parity.

@@ -1,15 +1,14 @@
--- `geometry::Geometry::place` meets its contract: each return is a case of what placement answers.
+-- `geometry::Geometry::place` meets its contract: refused by the limits, or dealt as the layout deals.
 -- Assumes nothing.
-use Prim.Native.Nat.{ℕ, _-_, _<_}
+use Prim.Native.Nat.{_-_, _*_, _≤_, _<_}
 use mathlib.Core.Bool.{false}
-use mathlib.Core.Path.{_≡_, ap, sym, _∙_}
-use native.Mathlib.Nat.{le-refl, mod-lt}
+use mathlib.Core.Path.{_≡_, sym, _∙_}
+use native.Mathlib.Nat.{le-refl}
 use native.Mathlib.Omega.{arith}
 use borrow.Author.Needs.{needs}
-use Rattle.terms.specs.Reply.{accepted}
 use Rattle.geometry.specs.Answers.{beyondPlaces, placedReply}
-use Rattle.geometry.specs.Placement.{stripeOf, unitOf}
-use Rattle.geometry.proofs.Answered.{places-bounds, blocks-few, place-beyond, place-range, place-found}
+use Rattle.geometry.proofs.Answered.{places-bounds, blocks-few, place-beyond, place-tested}
+use Rattle.geometry.proofs.Placing.{cardOf-4, cardOf-5}
 use Rattle.geometry.proofs.Geometry.place.Statement.{statement}
 use Rattle.geometry.proofs.Geometry.place.Tie as tie
 
@@ -18,6 +17,9 @@ within c = sym (c .before .beyond-places .ensures) ∙ c .if1 .left
 
 some-unit : (c : tie.Else1) → 0 < c .before .before .args .self .cards - 1
 some-unit c = let b = places-bounds _ _ _ (within c) in omega (arith, b .cards-low)
+
+few : (c : tie.Else1) → let a = c .before .before .args in (a .self .cards - 1) * a .self .stripes ≤ 7168
+few c = blocks-few _ _ _ (within c) _ (le-refl _)
 
 beyond-places-requires : tie.Need-beyond-places-requires
 beyond-places-requires c κs = search needs
@@ -29,46 +31,17 @@ returns c = sym (place-beyond _ _ _ _ (sym (c .before .beyond-places .ensures) �
 sub-units : tie.Need-sub-units
 sub-units c = let b = some-unit c in omega arith
 
-mul-if2 : tie.Need-mul-if2
-mul-if2 c = record { fits = let few = blocks-few _ _ _ (within c) _ (le-refl _) in omega arith }
+dealt-requires : tie.Need-dealt-requires
+dealt-requires c κs = let b = some-unit (c .before) in (b, b, few (c .before))
 
 returns-2 : tie.Need-returns-2
-unfolding placedReply
-returns-2 c = sym (place-range _ _ _ _ (within (c .before)) (c .if2 .taken))
+returns-2 c = c .dealt .ensures ∙ place-tested _ _ _ _ _ (within (c .before .before)) (cardOf-4 _ _ _ (c .before .if2 .taken))
 
-div-stripe : tie.Need-div-stripe
-div-stripe c = some-unit (c .before)
-
-rem-card-of : tie.Need-rem-card-of
-rem-card-of c = some-unit (c .before)
-
--- the unit's position
-position : (c : tie.Else1) → let a = c .before .before .args in unitOf (a .self .cards) (a .block) < a .self .cards
-position c = let a = c .before .before .args in omega (arith, mod-lt (a .block) (some-unit c))
-
-card-of-requires : tie.Need-card-of-requires
-card-of-requires c κs = position (c .before)
+dealt-requires-2 : tie.Need-dealt-requires-2
+dealt-requires-2 c κs = let b = some-unit (c .before) in (b, omega arith, few (c .before))
 
 returns-3 : tie.Need-returns-3
-unfolding placedReply
-returns-3 c =
-    let one = c .before .before in
-    let a = one .before .before .args in
-    ap
-    (λ (k : ℕ). accepted k (stripeOf (a .self .cards) (a .block)))
-    (c .card-of .ensures)
-    ∙ sym (place-found _ _ _ _ (within one) (c .before .if2 .left))
+returns-3 c = c .dealt2 .ensures ∙ place-tested _ _ _ _ _ (within (c .before .before)) (cardOf-5 _ _ _ (let b = some-unit (c .before .before) in omega arith) (c .before .if2 .left))
 
 pub place-spec : {M : Type 1} → statement M
-place-spec =
-    tie.close
-    (tie.spec
-    beyond-places-requires
-    returns
-    sub-units
-    mul-if2
-    returns-2
-    div-stripe
-    rem-card-of
-    card-of-requires
-    returns-3)
+place-spec = tie.close (tie.spec beyond-places-requires returns sub-units dealt-requires returns-2 dealt-requires-2 returns-3)

@@ -4,7 +4,9 @@
 //! is the part of the library's time in which no byte is copied or summed: what remains when the
 //! time of the bare copies and sums of the same request is taken away.
 //!
-//! Run it alone on the machine. It decides nothing: it prints a table, which docs/PERFORMANCE.md keeps.
+//! Run it alone on the machine. It decides nothing: it prints a table, which docs/PERFORMANCE.md keeps. With the words of a row and a layout
+//! (`requests "small write" 8 512 5`) it makes that request on every stripe once, by the library alone, and prints how many calls it made,
+//! for `instructions` to count.
 
 mod moves;
 
@@ -12,6 +14,7 @@ use harness::calls::{pack, Answer, Calls, Lent, Plain, Record, State, Tested};
 use harness::plain::blocks::make_right;
 use harness::plain::graph::{members, Plan};
 use harness::plain::placement::card_at;
+use harness::plain::LEVEL_5;
 use harness::random::Random;
 use std::time::{Duration, Instant};
 
@@ -23,6 +26,7 @@ pub struct Task {
     name: &'static str,
     cards: u64,
     block: u64,
+    layout: u64,
     write: bool,
     /// How many units, from unit 0 on.
     units: u64,
@@ -31,11 +35,19 @@ pub struct Task {
     graph: u64,
 }
 
-fn tasks(cards: u64, block: u64) -> [Task; 4] {
+fn tasks(cards: u64, block: u64, layout: u64) -> [Task; 4] {
     let all = cards - 1;
     let half = all.div_ceil(2);
-    let task =
-        |name, write, units, out, graph| Task { name, cards, block, write, units, out, graph };
+    let task = |name, write, units, out, graph| Task {
+        name,
+        cards,
+        block,
+        layout,
+        write,
+        units,
+        out,
+        graph,
+    };
     [
         task("small write", true, 1, None, 3),
         task("reconstruct write", true, half, None, 4),
@@ -60,8 +72,8 @@ pub struct Bench {
 
 impl Bench {
     fn new(task: &Task) -> Bench {
-        let Task { cards, block, .. } = *task;
-        let whole = State { records: RECORDS, ..State::whole(cards, STRIPES, block) };
+        let Task { cards, block, layout, .. } = *task;
+        let whole = State { records: RECORDS, layout, ..State::whole(cards, STRIPES, block) };
         let out = task.out.map_or(255, |position| card_at(&whole, 0, position));
         let state = State { out, ..whole };
         let mut random = Random::new(cards);
@@ -147,11 +159,26 @@ fn run(task: &Task) {
     );
 }
 
+/// One round of a row, by the library; how many calls it made.
+fn once(name: &str, [cards, block, layout]: [u64; 3]) -> usize {
+    let tasks = tasks(cards, block, layout);
+    let task = tasks.iter().find(|task| task.name == name).expect("a request of the table");
+    let mut bench = Bench::new(task);
+    bench.round(&Tested, task.write);
+    bench.stripes.len() * (bench.steps.len() + 2)
+}
+
 fn main() {
+    let words: Vec<String> = std::env::args().skip(1).collect();
+    if let [name, cards, block, layout] = &words[..] {
+        let number = |word: &String| word.parse().expect("a number");
+        println!("{}", once(name, [number(cards), number(block), number(layout)]));
+        return;
+    }
     println!("| request | N | B | library, requests/s | plain engine, requests/s | times slower | not bytes |");
     println!("|---|---|---|---|---|---|---|");
     for (cards, block) in [(8, 512), (4, 64)] {
-        for task in &tasks(cards, block) {
+        for task in &tasks(cards, block, LEVEL_5) {
             run(task);
         }
     }
