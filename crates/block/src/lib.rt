@@ -1,5 +1,6 @@
 // Bytes and blocks: copying a block, and adding one to a sum.
 // Assumes nothing.
+#![tactic(auto)]
 pub use parts::carry;
 
 mod parts;

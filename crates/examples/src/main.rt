@@ -1,5 +1,6 @@
 // The checked examples of document 01 that are not starred, each asked of the library's own calls: one line each, with what came out.
 // N = 5 and S = 5 unless said.
+#![tactic(auto)]
 use array::answers::{Admission, Admitted, Opened};
 use geometry::{Geometry, LEVEL_5, NONE, Placed};
 use record::Table;

@@ -7,14 +7,14 @@ use crate::State;
 use crate::limits::{NO_FILL, NONE};
 
 // What a start answers: the fill is begun; or the number of the refusal.
-#[derive(Drop)]
+#[derive(Clone, Copy)]
 pub enum Started {
     Begun,
     Refused(u64),
 }
 
 // The answer, and the state after the start.
-#[derive(Drop)]
+#[derive(Clone, Copy)]
 pub struct Start {
     pub answer: Started,
     pub state: State,

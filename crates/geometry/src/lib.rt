@@ -1,5 +1,6 @@
 // The array's shape: its numbers by value, their limits, placement both ways, and where blocks stand.
 // Assumes nothing.
+#![tactic(auto)]
 pub use limits::{LEVEL_4, LEVEL_5, NO_FILL, NO_STRIPE, NONE, legal};
 pub use placement::{card_at, missing_at};
 
@@ -12,7 +13,7 @@ mod store;
 
 // The numbers an array is opened with: cards (N), stripes (S), bytes in a block (B), request records (K), and the layout (4 or 5).
 #[repr(C)]
-#[derive(Drop)]
+#[derive(Clone, Copy)]
 pub struct Geometry {
     pub cards: u64,
     pub stripes: u64,
@@ -24,7 +25,7 @@ pub struct Geometry {
 // An open array: its geometry, the card that is out (255: none), the mark of a lost array (0: not lost), and the fill place, the stripe of the fresh
 // card in that sleeve that is filled next (65,535: no fill is under way).
 #[repr(C)]
-#[derive(Drop)]
+#[derive(Clone, Copy)]
 pub struct State {
     pub cards: u64,
     pub stripes: u64,
@@ -37,7 +38,7 @@ pub struct State {
 }
 
 // Where a block is: its card and its stripe, or what was refused.
-#[derive(Drop)]
+#[derive(Clone, Copy)]
 pub enum Placed {
     At { card: u64, stripe: u64 },
     // Refusal 1: the cards, the stripes or the layout are beyond their limits.
@@ -47,7 +48,7 @@ pub enum Placed {
 }
 
 // What a card holds in a stripe: a block's number or parity, or what was refused.
-#[derive(Drop)]
+#[derive(Clone, Copy)]
 pub enum Held {
     Block(u64),
     Parity,

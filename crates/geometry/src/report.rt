@@ -8,14 +8,14 @@ use crate::State;
 use crate::limits::{NO_FILL, NONE};
 
 // What a report answers: the card is marked out, or the array lost; or the number of the refusal.
-#[derive(Drop)]
+#[derive(Clone, Copy)]
 pub enum Reported {
     Marked,
     Refused(u64),
 }
 
 // The answer, and the state after the report.
-#[derive(Drop)]
+#[derive(Clone, Copy)]
 pub struct Report {
     pub answer: Reported,
     pub state: State,

@@ -1,7 +1,7 @@
 -- A done set is closed where five tests on whole sets hold.
 -- Assumes nothing.
 use Prim.Native.Nat.{ℕ, ◌+◌, ◌-◌, ◌*◌, ◌/◌, ◌^◌, ◌≤◌, ◌<◌}
-use mathlib.Core.Bool.{Bool, true, false, and_true}
+use mathlib.Core.Bool.{Bool, true, false, and-true}
 use mathlib.Core.Logic.{⊎_elim}
 use mathlib.Core.Path.{◌≡◌, refl, sym, ap, subst, ◌∙◌}
 use native.Mathlib.Nat.{lt_of_le_of_lt}
@@ -36,7 +36,7 @@ bit_shr m k i = rw (shr-shr m k i)
 
 pub bit_written : (n done p : ℕ) → p < n → bit p (written n done) ≡ bit (n + 2 + p) done
 bit_written n done p h =
-    bit_of_and p (done / 2 ^ (n + 2)) (2 ^ n - 1) ∙ rw (bit_full n p h, and_true (bit p (done / 2 ^ (n + 2)))) (bit_shr done (n + 2) p)
+    bit_of_and p (done / 2 ^ (n + 2)) (2 ^ n - 1) ∙ rw (bit_full n p h, and-true (bit p (done / 2 ^ (n + 2)))) (bit_shr done (n + 2) p)
 
 -- the five tests: only steps of the graph; the exclusive or's and parity's forerunners; a unit's own read in 3; all the reads in 4
 pub record InOrder (n g mask x done : ℕ) : Type 0 where

@@ -1,7 +1,7 @@
 -- The sets of positions that a graph reads and writes, as the code makes them from the mask.
 -- Assumes nothing.
 use Prim.Native.Nat.{ℕ, ◌+◌, ◌-◌, ◌*◌, ◌%◌, ◌^◌, ◌≤◌, ◌<◌}
-use mathlib.Core.Bool.{Bool, cond, false, not, ◌||◌, and_true, or-true, or-false}
+use mathlib.Core.Bool.{Bool, cond, false, not, ◌||◌, and-true, or-true, or-false}
 use mathlib.Core.Logic.{⊎_elim}
 use mathlib.Core.Path.{◌≡◌, refl, sym, ap, ◌∙◌}
 use native.Mathlib.Nat.{lt_of_le_of_lt, lt_of_lt_of_le}
@@ -49,7 +49,7 @@ module _ (n mask : ℕ) where
       is_set_of (n + 1) (bit_and mask (2 ^ n - 1)) (masked n mask) (omega (arith, masked_low, pow_next n))
       (λ i h.
       position n i h
-      (λ l. bit_of_and i mask (2 ^ n - 1) ∙ rw (bit_full n i l, masked_unit i l) (and_true (bit i mask)))
+      (λ l. bit_of_and i mask (2 ^ n - 1) ∙ rw (bit_full n i l, masked_unit i l) (and-true (bit i mask)))
       (λ e. rw e (bit_beyond n (bit_and mask (2 ^ n - 1)) n masked_low (omega arith) ∙ sym masked_parity)))
 
   pub masked_bound : set_of (n + 1) (masked n mask) < 2 ^ n

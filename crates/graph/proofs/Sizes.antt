@@ -1,7 +1,7 @@
 -- How many steps each graph has, by its mask.
 -- Assumes nothing.
 use Prim.Native.Nat.{ℕ, zero, suc, ◌+◌, ◌-◌, ◌*◌, ◌/◌, ◌%◌, ◌^◌, ◌≤◌, ◌<◌}
-use mathlib.Core.Bool.{Bool, true, false, cond, not, ◌&&◌, ◌||◌, and_true, and-false}
+use mathlib.Core.Bool.{Bool, true, false, cond, not, ◌&&◌, ◌||◌, and-true, and-false}
 use mathlib.Core.Logic.{⊎_elim}
 use mathlib.Core.Path.{◌≡◌, refl, sym, ap, ap₂, ◌∙◌}
 use native.Mathlib.Nat.{add-zero, mod-eq_of_lt, add_comm}
@@ -59,7 +59,7 @@ but_same x i p e = rw (eq-eqb i x e) (and-false (p i))
 
 but_other : (x i : ℕ) (p : ℕ → Bool) → ¬ (i ≡ x) → but x p i ≡ p i
 unfolding but
-but_other x i p n = rw (ne_eqb i x n) (and_true (p i))
+but_other x i p n = rw (ne_eqb i x n) (and-true (p i))
 
 module _ (n x : ℕ) (p : ℕ → Bool) where
   put_back : x < n → p x ≡ true → set_of n (but x p) + 2 ^ x ≡ set_of n p

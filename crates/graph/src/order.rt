@@ -125,7 +125,7 @@ fn in_order(n: u64, g: u64, mask: u64, x: u64, done: u64, reading: u64, whole: u
 
 // Of done steps: whether they belong to the graph, each with its forerunners, and whether none is wanting; with the graph's steps
 // and the positions that it reads.
-#[derive(Drop)]
+#[derive(Clone, Copy)]
 pub struct Judged {
     pub right: bool,
     pub whole: bool,

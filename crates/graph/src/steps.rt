@@ -4,7 +4,7 @@ ghost use Rattle.graph.specs.Asked.{action_step};
 ghost use Rattle.graph.specs.Steps.{step_of};
 
 // What a step does: reads a position, is the exclusive or, writes a position; nothing where its number is no step's.
-#[derive(Drop)]
+#[derive(Clone, Copy)]
 pub enum Action {
     Read(u64),
     Sum,

@@ -1,4 +1,5 @@
 // Prints layout 5 of an array: reads N, one space, S and a newline, and writes a line for each stripe, or `bad`.
+#![tactic(auto)]
 use libc::{STDIN_FILENO, STDOUT_FILENO};
 use text::Asked;
 

@@ -1,5 +1,6 @@
 // The parity of stripes in the image, the scan for the lowest place where it disagrees, and a missing block restored.
 // Assumes nothing.
+#![tactic(auto)]
 pub use rest::restore;
 
 mod rest;
@@ -14,7 +15,7 @@ ghost use Rattle.parity.specs.Scan.{Named, reply, look_reply, idle_scan_reply};
 use geometry::{NO_STRIPE, NONE, State};
 
 // What a scan answers: parity is right; refused by 13, with the lowest stripe and the lowest byte in it where parity disagrees; or refused.
-#[derive(Drop)]
+#[derive(Clone, Copy)]
 pub enum Scan {
     Right,
     Disagrees { stripe: u64, byte: u64 },

@@ -7,7 +7,7 @@ use record::{Record, Table};
 
 // The state, the table, the work store and the image; the place of the record that was admitted last, and whether the last touch that was read is
 // as it was sent.
-#[derive(Drop)]
+#[derive(Clone, Copy)]
 pub struct Desk {
     pub state: State,
     pub table: Table,

@@ -1,5 +1,6 @@
 // A small race on five cards: swimmers touch, a card dies between two steps of a write, a spare is filled while touches go on, another card dies, and
 // every touch is read back. Each line tells what the library's own calls answered.
+#![tactic(auto)]
 use bytes::touches_from;
 use desk::Desk;
 use geometry::{Geometry, LEVEL_5, NONE};

@@ -113,7 +113,7 @@ const GRAPH: u64 = 71;
 const CLOSED: u64 = 72;
 
 // A telling: how many sentences come before the one that is told, and the numbers that it has not used.
-#[derive(Drop)]
+#[derive(Clone, Copy)]
 pub struct Telling {
     pub before: u64,
     pub a: u64,

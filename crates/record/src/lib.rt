@@ -1,5 +1,6 @@
 // The request record by value, the table of up to eight of them, and what one look at either finds.
 // Assumes nothing.
+#![tactic(auto)]
 pub use life::{admitted, free};
 pub use sound::legal_mask;
 
@@ -10,7 +11,7 @@ mod tables;
 
 // A request record. A free one is all zero.
 #[repr(C)]
-#[derive(Drop)]
+#[derive(Clone, Copy)]
 pub struct Record {
     // free, open or finished: 0, 1, 2
     pub phase: u64,
@@ -29,7 +30,7 @@ pub struct Record {
 }
 
 // A table by value: its records, of which the first len count.
-#[derive(Drop)]
+#[derive(Clone, Copy)]
 pub struct Table {
     pub records: [Record; 8],
     pub len: u64,
@@ -37,7 +38,7 @@ pub struct Table {
 
 // What one look at a table finds: how many records it has, whether it is sound, the stripe that each of up to eight holds (or a number
 // that is no stripe's), and the lowest free record (its length where none is free).
-#[derive(Drop)]
+#[derive(Clone, Copy)]
 pub struct Survey {
     pub len: u64,
     pub sound: bool,
@@ -47,7 +48,7 @@ pub struct Survey {
 
 // What one look at a record finds: whether it is sound, and, of a sound one that is not free, the position that was missing when its
 // graph was chosen, the one that is missing now, the graph's steps and the positions that it reads; zeros of any other.
-#[derive(Drop)]
+#[derive(Clone, Copy)]
 pub struct Look {
     pub sound: bool,
     pub x: u64,

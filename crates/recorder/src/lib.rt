@@ -1,6 +1,7 @@
 // The functions that a C program calls: each answers one number, packed as docs/C-INTERFACE.md says, and no number traps. Here placement and
 // the scan of an array with nothing open, by numbers and bytes; the whole engine is in `engine`.
 // Assumes nothing.
+#![tactic(auto)]
 ghost use Rattle.std.specs.Prelude.{◌≡◌};
 ghost use Rattle.geometry.specs.Answers.{place_reply, block_at_reply};
 ghost use Rattle.parity.specs.Scan.{idle_scan_reply};

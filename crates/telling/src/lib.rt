@@ -1,5 +1,6 @@
 // What the programs tell: words and numbers, written to standard output. A write that fails is passed over.
 // Assumes nothing.
+#![tactic(auto)]
 use libc::STDOUT_FILENO;
 
 // Tells some words.

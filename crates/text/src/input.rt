@@ -6,7 +6,7 @@ use crate::beyond;
 use crate::number::read_number;
 
 // What an input asks for: the layout of an array of this shape, or nothing that can be shown.
-#[derive(Drop)]
+#[derive(Clone, Copy)]
 pub enum Asked {
     Shape { cards: u64, stripes: u64 },
     Bad,

@@ -1,6 +1,6 @@
 -- `seen_but` meets its contract: the record left out counts as a free one, which is sound and holds no stripe.
 -- Assumes nothing.
-use mathlib.Core.Bool.{and_true}
+use mathlib.Core.Bool.{and-true}
 use borrow.Author.Rules.{rules}
 use borrow.Author.Tests.{eq-eqb, ne_eqb}
 use Rattle.record.specs.Seen.{fine, still_sound, still_free, seen}
@@ -15,7 +15,7 @@ returns : tie.Need-returns
 unfolding seen still_sound still_free fine all_zero
 returns c =
     let a = c.before.before.args in
-    rw (eq-eqb a.i a.but c.before.if1.true, and_true a.self.sound) c.left_out.ensures
+    rw (eq-eqb a.i a.but c.before.if1.true, and-true a.self.sound) c.left_out.ensures
 
 seen_requires : tie.Need-seen-requires
 seen_requires c κs = search rules

@@ -1,0 +1,19 @@
+-- `geometry::placement::rotated_card` meets its contract, by the laws of the turns.
+-- Assumes nothing.
+use mathlib.Core.Path.{sym}
+use native.Mathlib.Nat.{le_of_lt}
+use native.Mathlib.Omega.{arith}
+use Rattle.geometry.proofs.Turns.{turn_below, card_before, card_from}
+use Rattle.geometry.proofs.placement.rotated_card.Goals as goal
+
+pub nonzero_rem-turn : goal.nonzero_rem-turn
+nonzero_rem-turn c = omega (arith, c.requires)
+
+pub overflow_sub-rest : goal.overflow_sub-rest
+overflow_sub-rest c = le_of_lt (turn_below _ _ _ c.requires)
+
+pub returns-then-position-turn : goal.returns-then-position-turn
+returns-then-position-turn c = sym (card_before _ _ _ c.requires c.if-position-turn.true)
+
+pub returns : goal.returns
+returns c = sym (card_from _ _ _ c.requires c.if-position-turn.false)

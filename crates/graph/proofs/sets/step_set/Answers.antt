@@ -1,0 +1,24 @@
+-- `step_set` meets its contract.
+-- Assumes nothing.
+use Prim.Native.Nat.{ℕ, ◌+◌, ◌*◌, ◌^◌}
+use mathlib.Core.Bool.{cond}
+use mathlib.Core.Path.{ap₂, ◌∙◌}
+use Rattle.terms.proofs.Bits.{set_of_bound}
+use Rattle.graph.specs.Steps.{sums, reads, writes}
+use Rattle.graph.proofs.Positions.{steps_are}
+use Rattle.graph.proofs.sets.step_set.Goals as goal
+
+pub join-requires : goal.join-requires
+join-requires c =
+    let a = c.args in (
+      c.requires,
+      rw c.read_set.ensures (set_of_bound (a.n + 1) (reads a.n a.g a.mask a.x)),
+      rw c.write_set.ensures (set_of_bound (a.n + 1) (writes a.n a.g a.mask a.x)),
+    )
+
+pub returns : goal.returns
+returns c =
+    let a = c.args in
+    c.join.ensures
+    ∙ ap₂ (λ (r w : ℕ). w * 2 ^ (a.n + 2) + (r + cond (sums a.g) (2 ^ (a.n + 1)) 0)) c.read_set.ensures c.write_set.ensures
+    ∙ steps_are a.n a.g a.mask a.x
