@@ -2,6 +2,7 @@
 // a stripe; the mask; x, the position missing (above n: none); g, the graph; done, the done steps; k, a step's number.
 // Assumes nothing.
 #![tactic(auto)]
+
 pub use choice::{choose, has};
 pub use order::{Judged, after, complete, judge, part_of, ready, ready_by};
 pub use steps::{Action, step_of};

@@ -9,32 +9,30 @@ use lib.Bits.{bit_and}
 use lib.Dec.{eqb}
 use Rattle.terms.proofs.Rows.{true≢false, or_not_elim, or_not_intro}
 use Rattle.terms.specs.Sets.{bit, set_of}
+use Rattle.graph.specs.Asked.{step_set}
 use Rattle.graph.specs.Steps.{reads}
 use Rattle.graph.proofs.InOrder.{written, InOrder, decided, refused}
 use Rattle.graph.proofs.order.in_order.Goals as goal
 
-abbrev start : goal.Else-done-whole → goal.Start
-start = c
+-- past the tests of the done set, of the exclusive or and of parity's write, those of units' writes are left
+module _ (n g mask x done : ℕ) where
+  abbrev old : ℕ
+  old = set_of (n + 1) (reads n g mask x)
 
-abbrev last : goal.Else-not-implies-2 → goal.Start
-last = start
-
--- past the tests of the exclusive or and of parity's write, those of units' writes are left
-so_far : (c : goal.Else-not-implies-2)
-    → let a = last.args in
-    let old : ℕ = set_of (a.n + 1) (reads a.n a.g a.mask a.x) in
-    (a.g ≡ 3 → bit_and (written a.n a.done) a.done ≡ written a.n a.done)
-    → (a.g ≡ 4 → ¬ (written a.n a.done ≡ 0) → bit_and old a.done ≡ old)
-    → InOrder a.n a.g a.mask a.x a.done
-so_far small reconstruct =
-    let s = start in
-    record {
-      subset = ap (bit_and s.args.done) (sym s.pre.2) ∙ c.if-done-whole.false;
-      summed = λ b. eqb-true _ _ (or_not_elim _ _ (sym sum_test ∙ not-false c.implies.result c.if-not-implies.false-raw) b);
-      parity = or_not_elim _ _ (sym parity_test ∙ not-false c.implies-2.result c.if-not-implies-2.false-raw);
-      small = small;
-      reconstruct = reconstruct;
-    }
+  so_far : bit_and done (step_set n g mask x) ≡ done
+      → (not (bit (n + 1) done) || eqb (bit_and old done) old) ≡ true
+      → (not (bit (2 * n + 2) done) || bit (n + 1) done) ≡ true
+      → (g ≡ 3 → bit_and (written n done) done ≡ written n done)
+      → (g ≡ 4 → ¬ (written n done ≡ 0) → bit_and old done ≡ old)
+      → InOrder n g mask x done
+  so_far subset summed parity small reconstruct =
+      record {
+        subset = subset;
+        summed = λ b. eqb-true _ _ (or_not_elim _ _ summed b);
+        parity = or_not_elim _ _ parity;
+        small = small;
+        reconstruct = reconstruct;
+      }
 
 fails : {r a b : Bool} → r ≡ (not a || b) → r ≡ false → (a ≡ true → b ≡ true) → ⊥
 fails {r} {a} {b} t e h = true≢false (sym (or_not_intro a b h) ∙ sym t ∙ e)
@@ -46,40 +44,44 @@ returns-then-done-whole c =
 
 pub returns-then-not-implies : goal.returns-then-not-implies
 returns-then-not-implies c =
-    let sum_test : let a = start.args in let old : ℕ = set_of (a.n + 1) (reads a.n a.g a.mask a.x) in c.implies.result ≡ (not (bit (a.n + 1) a.done) || eqb (bit_and old a.done) old) = let s = start in c.implies.ensures ∙ ap₂ (λ (t : Bool) (r : ℕ). not t || eqb (bit_and r s.args.done) r) c.has.ensures s.pre.1 in
-    let a = start.args in
+    let a = c.args in
     refused a.n a.g a.mask a.x a.done
-    (λ o. fails sum_test (not-true c.implies.result c.if-not-implies.true-raw) (λ b. eq-eqb _ _ (o.summed b)))
+    (λ o. fails (c.implies.ensures ∙ ap₂ (λ (t : Bool) (r : ℕ). not t || eqb (bit_and r a.done) r) c.has.ensures c.requires.1) (not-true c.implies.result c.if-not-implies.true-raw) (λ b. eq-eqb _ _ (o.summed b)))
 
 pub returns-then-not-implies-2 : goal.returns-then-not-implies-2
 returns-then-not-implies-2 c =
-    let parity_test : let a = start.args in c.implies-2.result ≡ (not (bit (2 * a.n + 2) a.done) || bit (a.n + 1) a.done) = c.implies-2.ensures ∙ ap₂ (λ (s t : Bool). not s || t) c.has-2.ensures c.has-3.ensures in
-    let a = start.args in
+    let a = c.args in
     refused a.n a.g a.mask a.x a.done
-    (λ o. fails parity_test (not-true c.implies-2.result c.if-not-implies-2.true-raw) o.parity)
+    (λ o. fails (c.implies-2.ensures ∙ ap₂ (λ (s t : Bool). not s || t) c.has-2.ensures c.has-3.ensures) (not-true c.implies-2.result c.if-not-implies-2.true-raw) o.parity)
 
 pub returns-then-g-eq3 : goal.returns-then-g-eq3
 returns-then-g-eq3 c =
-    let a = last.args in
+    let a = c.args in
     let w = written a.n a.done in
     rw c.below.ensures
     (decided a.n a.g a.mask a.x a.done (eqb (bit_and w a.done) w)
-    (λ t. so_far (λ q. eqb-true _ _ t) (λ q. absurd (omega (arith, q, c.if-g-eq3.true))))
+    (λ t. so_far a.n a.g a.mask a.x a.done
+    (ap (bit_and a.done) (sym c.requires.2) ∙ c.if-done-whole.false)
+    (sym (c.implies.ensures ∙ ap₂ (λ (t : Bool) (r : ℕ). not t || eqb (bit_and r a.done) r) c.has.ensures c.requires.1) ∙ not-false c.implies.result c.if-not-implies.false-raw)
+    (sym (c.implies-2.ensures ∙ ap₂ (λ (s t : Bool). not s || t) c.has-2.ensures c.has-3.ensures) ∙ not-false c.implies-2.result c.if-not-implies-2.false-raw) (λ q. eqb-true _ _ t) (λ q. absurd (omega (arith, q, c.if-g-eq3.true))))
     (λ o. eq-eqb _ _ (o.small c.if-g-eq3.true)))
 
 pub returns-then-g-eq4 : goal.returns-then-g-eq4
 returns-then-g-eq4 c =
-    let s = last in
-    let a = s.args in
+    let a = c.args in
     let w = written a.n a.done in
     let old : ℕ = set_of (a.n + 1) (reads a.n a.g a.mask a.x) in
     (c.implies-then-g-eq4.ensures
     ∙ ap₂ (λ (m r : ℕ). not (not (eqb (bit_and (a.done / 2 ^ (a.n + 2)) m) 0)) || eqb (bit_and r a.done) r)
     c.below.ensures
-    s.pre.1)
+    c.requires.1)
     ∙ decided a.n a.g a.mask a.x a.done (not (not (eqb w 0)) || eqb (bit_and old a.done) old)
     (λ t.
-    so_far (λ q. absurd (omega (arith, q, c.if-g-eq4.true)))
+    so_far a.n a.g a.mask a.x a.done
+    (ap (bit_and a.done) (sym c.requires.2) ∙ c.if-done-whole.false)
+    (sym (c.implies.ensures ∙ ap₂ (λ (t : Bool) (r : ℕ). not t || eqb (bit_and r a.done) r) c.has.ensures c.requires.1) ∙ not-false c.implies.result c.if-not-implies.false-raw)
+    (sym (c.implies-2.ensures ∙ ap₂ (λ (s t : Bool). not s || t) c.has-2.ensures c.has-3.ensures) ∙ not-false c.implies-2.result c.if-not-implies-2.false-raw)
+    (λ q. absurd (omega (arith, q, c.if-g-eq4.true)))
     (λ q z. eqb-true _ _ (or_not_elim (not (eqb w 0)) (eqb (bit_and old a.done) old) t (ap not (ne_eqb w 0 z)))))
     (λ o.
     or_not_intro (not (eqb w 0)) (eqb (bit_and old a.done) old)
@@ -87,5 +89,10 @@ returns-then-g-eq4 c =
 
 pub returns : goal.returns
 returns c =
-    let a = last.args in
-    decided a.n a.g a.mask a.x a.done true (λ t. so_far (λ q. absurd (c.if-g-eq3.false q)) (λ q. absurd (c.if-g-eq4.false q))) (λ o. refl)
+    let a = c.args in
+    decided a.n a.g a.mask a.x a.done true
+    (λ t. so_far a.n a.g a.mask a.x a.done
+    (ap (bit_and a.done) (sym c.requires.2) ∙ c.if-done-whole.false)
+    (sym (c.implies.ensures ∙ ap₂ (λ (t : Bool) (r : ℕ). not t || eqb (bit_and r a.done) r) c.has.ensures c.requires.1) ∙ not-false c.implies.result c.if-not-implies.false-raw)
+    (sym (c.implies-2.ensures ∙ ap₂ (λ (s t : Bool). not s || t) c.has-2.ensures c.has-3.ensures) ∙ not-false c.implies-2.result c.if-not-implies-2.false-raw) (λ q. absurd (c.if-g-eq3.false q)) (λ q. absurd (c.if-g-eq4.false q)))
+    (λ o. refl)

@@ -14,5 +14,5 @@ returns c =
     let a = c.args in
     rw (few a.n c.if-n-gt7.false)
     ((rw (few a.n c.if-n-gt7.false) at c.ready_by.ensures)
-    ∙ ready_of a.n a.g a.mask a.x a.done a.k c.step_set-whole.result c.read_set-reading.result (action_step c.step_of_lem.result)
-    c.step_set-whole.ensures c.read_set-reading.ensures c.step_of_lem.ensures)
+    ∙ ready_of a.n a.g a.mask a.x a.done a.k c.step_set-whole.result c.read_set-reading.result (action_step c.step_of.result)
+    c.step_set-whole.ensures c.read_set-reading.ensures c.step_of.ensures)
