@@ -1,6 +1,7 @@
 // The request record by value, the table of up to eight of them, and what one look at either finds.
 // Assumes nothing.
 #![tactic(auto)]
+
 pub use life::{admitted, free};
 pub use sound::legal_mask;
 
