@@ -1,6 +1,7 @@
 // The parity of stripes in the image, the scan for the lowest place where it disagrees, and a missing block restored.
 // Assumes nothing.
 #![tactic(auto)]
+
 pub use rest::restore;
 
 mod rest;
