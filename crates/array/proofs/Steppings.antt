@@ -114,5 +114,5 @@ module _ (st : State) (table : List Record) (work image : List ℕ) (i k : ℕ) 
   pub step_granted : Ready → step_number ≡ 0
   unfolding step_refusal Failed step_rows
   step_granted a =
-      let own : Failed (step_rows st the_record i k) = (lt-leb st.records i a.record_below, (ap not a.is_open, (ap not a.is_ready, tt))) in
+      let own : Failed (step_rows st the_record i k) = (lt-leb st.records i a.record_below, (ap not a.record_open, (ap not a.is_ready, tt))) in
       failed_zero _ (failed_both (lent_rows st wrong fine) (step_rows st the_record i k) (rows_passed st wrong fine (step_fine st table work image a.right i)) own)

@@ -35,7 +35,7 @@ fn keep_units(state: State, record: u64, mask: u64, payload: &[u8], work: &mut [
     }
 }
 
-// Whether the payload is not typeof.m.B bytes for a write, 0 for a read.
+// Whether the payload is not m·B bytes for a write, 0 for a read.
 fn payload_wrong(state: State, write: bool, mask: u64, payload: usize) -> bool
     requires { state.block ≤ 512 }
     ensures { result ≡ not (eqb payload (cond write (unit_bytes state mask) 0)) }

@@ -35,7 +35,7 @@ fn hand_over(state: State, record: u64, mask: u64, work: &[u8], res: &mut [u8])
     }
 }
 
-// Whether the result buffer is below typeof.m.B for a read.
+// Whether the result buffer is below m·B for a read.
 fn result_short(state: State, r: Record, res: usize) -> bool
     requires { state.block ≤ 512 }
     ensures { result ≡ (not (is_write r) && ltb res (unit_bytes state r.mask)) }

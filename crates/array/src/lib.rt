@@ -2,6 +2,7 @@
 // for whoever lends it. (Report and start are lent the state alone, and are methods of it.)
 // Assumes nothing.
 #![tactic(auto)]
+
 pub use admits::{admit, admit_by};
 pub use collects::{collect, collect_by};
 pub use opens::{open, open_by};

@@ -86,7 +86,7 @@ pub(crate) fn lent_refusal(state: State, wrong: bool, sound: bool) -> u64
     0
 }
 
-// typeof.m.B, with m the number of ones in the mask.
+// m·B, with m the number of ones in the mask.
 pub(crate) fn unit_bytes(state: State, mask: u64) -> usize
     requires { state.block ≤ 512 }
     ensures { result ≡ unit_bytes state mask }

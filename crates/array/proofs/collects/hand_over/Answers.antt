@@ -1,0 +1,63 @@
+-- `array::collects::hand_over` meets its contract: after u turns the units below u are handed over.
+-- Assumes nothing.
+use Prim.Native.Nat.{◌-◌}
+use mathlib.Core.Logic.{⊎_elim}
+use native.Mathlib.Omega.{arith}
+use Rattle.terms.proofs.Bits.{bit_odd, bit_even}
+use Rattle.array.specs.Collection.{hand_over}
+use Rattle.array.proofs.Units.{turned_none, turned_pass, turned_all, keeping_bounds, keep_room, hand_more}
+use Rattle.array.proofs.collects.hand_over.Goals as goal
+use Rattle.array.proofs.collects.hand_over.Goals.{then-mask-u-eq1, else-mask-u-eq1}
+
+pub overflow_sub-units : goal.overflow_sub-units
+overflow_sub-units c =
+    let a = c.args in
+    omega (arith, keeping_bounds a.state a.«record» a.mask a.res.now a.work.now c.requires)
+
+pub loop-u-init : goal.loop-u-init
+loop-u-init c = turned_none _ _ _ _ _
+
+pub overflow_shr-mask : goal.overflow_shr-mask
+overflow_shr-mask c =
+    let a = c.args in
+    omega (arith, keeping_bounds a.state a.«record» a.mask a.res.now a.work.now c.requires)
+
+pub read_at-at-requires : goal.read_at-at-requires
+read_at-at-requires c =
+    let a = c.args in
+    let b = keeping_bounds a.state a.«record» a.mask a.res.now a.work.now c.requires in
+    (c.requires.limits, c.requires.record_below, omega (arith, b, c.loop-u-test.true))
+
+pub overflow_add-place : goal.overflow_add-place
+overflow_add-place c =
+    let a = c.args in
+    let k = c.loop-u in
+    omega (
+      arith,
+      c.well_formed,
+      keep_room a.state a.«record» a.mask a.res.now a.work.now c.requires _ _ k.res k.place k.u k.invariant
+          (bit_odd k.u a.mask c.if-mask-u-eq1.true),
+    )
+
+pub loop-u-preserved : goal.loop-u-preserved
+loop-u-preserved c =
+    let a = c.args in
+    let k = c.loop-u in
+    elim c.if-mask-u-eq1.branch [
+      | then-mask-u-eq1 w ↦
+          rw (w.res-is, w.place-is)
+          (hand_more a.state a.«record» a.mask a.res.now a.work.now c.requires k.res k.place k.u k.invariant
+          c.loop-u-test.true (bit_odd k.u a.mask w.if-mask-u-eq1.true) _ _ w.read_at-at.ensures w.carry.ensures)
+      | else-mask-u-eq1 w ↦
+          rw (w.res-is, w.place-is)
+          (turned_pass _ _ _ _ _ k.res k.place k.u k.invariant c.loop-u-test.true (bit_even k.u a.mask w.if-mask-u-eq1.false) (rw (bit_even k.u a.mask w.if-mask-u-eq1.false)))
+    ]
+
+pub shape_of-res : goal.shape_of-res
+shape_of-res c = c.loop-u.invariant.as_long
+
+pub returns : goal.returns
+unfolding hand_over
+returns c =
+    let k = c.loop-u in
+    turned_all _ _ _ _ _ k.res k.place k.u k.invariant c.loop-u-test.false
