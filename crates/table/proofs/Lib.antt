@@ -1,4 +1,2 @@
--- What the walks of the table's functions, and of their callers, share.
-pub mod Records
-pub mod Elements
-pub mod Callers
+-- What the proofs of the table's functions rest on.
+pub mod Cleared

@@ -1,6 +1,7 @@
 // The table of request records as the caller lends it: thin functions that count it, read one record, look at all, replace one and free all.
 // Assumes nothing.
 #![tactic(auto)]
+
 ghost use Rattle.std.specs.Prelude.{◌≡◌, length, get_or, set, replicate, cond};
 ghost use Rattle.record.specs.Life.{free};
 ghost use Rattle.record.specs.Survey.{survey_but};
