@@ -1,5 +1,3 @@
--- What the walks of the calls share.
-pub mod Answers
-pub mod States
+-- What the proofs of the calls rest on, and that any two outcomes of a call are equal.
 pub mod BySurvey
 pub mod Outcomes

@@ -1,6 +1,7 @@
 // The calls as the caller makes them: lent the table of request records where it stands, and for a report, a start and a rebuild the state.
 // Assumes nothing.
 #![tactic(auto)]
+
 ghost use Rattle.std.specs.Prelude.{◌≡◌, eqb};
 ghost use Rattle.array.specs.Admission.{admission};
 ghost use Rattle.array.specs.Answers.{opened_reply};

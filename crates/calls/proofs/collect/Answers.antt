@@ -1,0 +1,11 @@
+-- `calls::collect` meets its contract: what is said of a collection by a survey of the rest is said of it over the table.
+-- Assumes nothing.
+use Rattle.calls.proofs.BySurvey.{collect_lent}
+use Rattle.calls.proofs.collect.Goals as goal
+
+pub returns : goal.returns
+returns c =
+    let a = c.args in
+    let is = rw (c.surveyed-survey.ensures, c.at-r.ensures) at c.collect_by-made.ensures in
+    rw c.replace.ensures
+    (collect_lent a.table.now a.state a.work.now a.i a.res.now c.collect_by-made.result c.collect_by-made.new.res is)
