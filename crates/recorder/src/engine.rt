@@ -30,8 +30,7 @@ fn state_left(answer: Opened, new: State, old: State) -> State
 }
 
 // Opens an array: the new state goes where the caller's stood, and every record is freed. Refused, it leaves both as they were.
-#[unsafe(no_mangle)]
-pub extern "C" fn coppicetune_open(
+pub fn coppicetune_open(
     state: &mut State,
     table: &mut [Record],
     work: &[u8],
@@ -60,8 +59,7 @@ pub extern "C" fn coppicetune_open(
 }
 
 // Admits a request, a read where `write` is 0 and a write where it is any other number.
-#[unsafe(no_mangle)]
-pub extern "C" fn coppicetune_admit(
+pub fn coppicetune_admit(
     state: &State,
     table: &mut [Record],
     work: &mut [u8],
@@ -86,8 +84,7 @@ pub extern "C" fn coppicetune_admit(
 }
 
 // Does step k of record i, or chooses its graph afresh.
-#[unsafe(no_mangle)]
-pub extern "C" fn coppicetune_step(
+pub fn coppicetune_step(
     state: &State,
     table: &mut [Record],
     work: &mut [u8],
@@ -101,24 +98,21 @@ pub extern "C" fn coppicetune_step(
 }
 
 // Marks a card out, or the array lost.
-#[unsafe(no_mangle)]
-pub extern "C" fn coppicetune_report(state: &mut State, card: u64) -> u64
+pub fn coppicetune_report(state: &mut State, card: u64) -> u64
     ensures { ReportingPacked (reporting state.old card) result state.new }
 {
     reported(calls::report(state, card))
 }
 
 // Begins a fill of the fresh card in the sleeve that is out.
-#[unsafe(no_mangle)]
-pub extern "C" fn coppicetune_start(state: &mut State) -> u64
+pub fn coppicetune_start(state: &mut State) -> u64
     ensures { StartingPacked (starting state.old) result state.new }
 {
     started(calls::start(state))
 }
 
 // Collects finished record i, which is freed.
-#[unsafe(no_mangle)]
-pub extern "C" fn coppicetune_collect(
+pub fn coppicetune_collect(
     state: &State,
     table: &mut [Record],
     work: &[u8],
@@ -131,16 +125,14 @@ pub extern "C" fn coppicetune_collect(
 }
 
 // Scans the stripes that no open request holds.
-#[unsafe(no_mangle)]
-pub extern "C" fn coppicetune_check(state: &State, table: &[Record], image: &[u8]) -> u64
+pub fn coppicetune_check(state: &State, table: &[Record], image: &[u8]) -> u64
     ensures { result ≡ packed (scan_reply state.now table.now image.now) }
 {
     scanned(calls::scan(*state, table, image))
 }
 
 // Fills the stripe at the fill place on the fresh card, and moves the fill on.
-#[unsafe(no_mangle)]
-pub extern "C" fn coppicetune_rebuild(state: &mut State, table: &[Record], image: &mut [u8]) -> u64
+pub fn coppicetune_rebuild(state: &mut State, table: &[Record], image: &mut [u8]) -> u64
     ensures { RebuildingPacked (rebuilding state.old table.now image.old) result state.new image.new }
 {
     rebuilt(calls::rebuild(state, table, image))

@@ -2,6 +2,7 @@
 // the scan of an array with nothing open, by numbers and bytes; the whole engine is in `engine`.
 // Assumes nothing.
 #![tactic(auto)]
+
 ghost use Rattle.std.specs.Prelude.{◌≡◌};
 ghost use Rattle.geometry.specs.Answers.{place_reply, block_at_reply};
 ghost use Rattle.parity.specs.Scan.{idle_scan_reply};
@@ -14,8 +15,7 @@ pub mod engine;
 mod packing;
 
 // The card and the stripe of a block.
-#[unsafe(no_mangle)]
-pub extern "C" fn coppicetune_place(cards: u64, stripes: u64, layout: u64, block: u64) -> u64
+pub fn coppicetune_place(cards: u64, stripes: u64, layout: u64, block: u64) -> u64
     ensures { result ≡ packed (place_reply cards stripes layout block) }
 {
     let placed = Geometry::places(cards, stripes, layout).place(block);
@@ -27,14 +27,7 @@ pub extern "C" fn coppicetune_place(cards: u64, stripes: u64, layout: u64, block
 }
 
 // What a card holds in a stripe: 0 and the block's number, or 1 for parity.
-#[unsafe(no_mangle)]
-pub extern "C" fn coppicetune_block_at(
-    cards: u64,
-    stripes: u64,
-    layout: u64,
-    card: u64,
-    stripe: u64,
-) -> u64
+pub fn coppicetune_block_at(cards: u64, stripes: u64, layout: u64, card: u64, stripe: u64) -> u64
     ensures { result ≡ packed (block_at_reply cards stripes layout card stripe) }
 {
     let held = Geometry::places(cards, stripes, layout).block_at(card, stripe);
@@ -47,8 +40,7 @@ pub extern "C" fn coppicetune_block_at(
 }
 
 // The scan of an array with nothing open: parity is right, or the lowest stripe and the lowest byte in it where it disagrees.
-#[unsafe(no_mangle)]
-pub extern "C" fn coppicetune_scan(
+pub fn coppicetune_scan(
     cards: u64,
     stripes: u64,
     block: u64,
