@@ -1,0 +1,27 @@
+-- `text::input::read_input` meets its contract: each test that fails shows a byte that no text of a shape has, and where all hold the
+-- input is the text of the numbers read.
+-- Assumes nothing.
+use borrow.Author.Rules.{rules}
+use mathlib.Core.Path.{sym, ◌∙◌}
+use native.Mathlib.Omega.{arith}
+use lib.Seq.{length-take-le}
+use Rattle.text.proofs.Parsing.{bad_short, bad_space, bad_end, bad_limits, good}
+use Rattle.text.proofs.input.read_input.Goals as goal
+
+pub returns-then-n-lt4 : goal.returns-then-n-lt4
+returns-then-n-lt4 c = sym (bad_short _ (search rules))
+
+pub returns-then-text-ne32 : goal.returns-then-text-ne32
+returns-then-text-ne32 c = sym (bad_space _ c.if-text-ne32.true)
+
+pub returns-then-text-end-ne10 : goal.returns-then-text-end-ne10
+returns-then-text-end-ne10 c = sym (bad_end _ c.if-text-end-ne10.true)
+
+pub slice_bounds-read_number-end : goal.slice_bounds-read_number-end
+slice_bounds-read_number-end c = sym (length-take-le 1 c.args.text.now (omega arith))
+
+pub returns-then-beyond : goal.returns-then-beyond
+returns-then-beyond c = sym (bad_limits _ _ _ c.read_number-cards.ensures c.read_number-stripes.ensures (sym c.beyond.ensures ∙ c.if-beyond.true))
+
+pub returns : goal.returns
+returns c = sym (good _ _ _ (omega arith) c.if-text-ne32.false c.if-text-end-ne10.false c.read_number-cards.ensures c.read_number-stripes.ensures (sym c.beyond.ensures ∙ c.if-beyond.false))
