@@ -1,21 +1,20 @@
 // What the programs tell: words and numbers, written to standard output. A write that fails is passed over.
 // Assumes nothing.
 #![tactic(auto)]
-use libc::STDOUT_FILENO;
 
 // Tells some words.
-pub fn words(text: &[u8]) {
-    io::write_all(STDOUT_FILENO, text);
+pub fn words(rt: &impl Print, text: &[u8]) {
+    let _ = rt.write_all(text);
 }
 
 // Tells some words and a number.
-pub fn count(text: &[u8], n: u64) {
-    words(text);
-    io::print_decimal(STDOUT_FILENO, n);
+pub fn count(rt: &impl Print, text: &[u8], n: u64) {
+    words(rt, text);
+    let _ = rt.print(n);
 }
 
 // Tells that a call was refused, by which number, and ends the line.
-pub fn refused(number: u64) {
-    count(b"refused by ", number);
-    words(b"\n");
+pub fn refused(rt: &impl Print, number: u64) {
+    count(rt, b"refused by ", number);
+    words(rt, b"\n");
 }

@@ -1,0 +1,10 @@
+-- `layout::read_full` is safe and ends: the measure is the room that is left, and no more than fits is read.
+-- Assumes nothing.
+use Rattle.std.proofs.Common.{length, ◌-◌, ◌≤◌}
+use Rattle.layout.proofs.read_full.Given as goal
+
+abbrev pub invariant-loop-n : goal.invariant-loop-n
+invariant-loop-n g l = l.n ≤ length l.buffer
+
+abbrev pub decreases-loop-n : goal.decreases-loop-n
+decreases-loop-n g l = length l.initial.buffer - l.n
