@@ -1,6 +1,7 @@
 // The checked examples of document 01 that are not starred, each asked of the library's own calls: one line each, with what came out.
 // N = 5 and S = 5 unless said.
 #![tactic(auto)]
+
 use array::answers::{Admission, Admitted, Opened};
 use geometry::{Geometry, LEVEL_5, NONE, Placed};
 use record::Table;
@@ -27,29 +28,29 @@ fn one_free() -> Table {
 }
 
 // Tells where a block is.
-fn tell_block(block: u64) {
-    count(b"block ", block);
-    words(b": ");
+fn tell_block(rt: &impl Print, block: u64) {
+    count(rt, b"block ", block);
+    words(rt, b": ");
     let answer = shape(5, 5, 16).place(block);
     match answer {
         Placed::At { card, stripe } => {
-            count(b"card ", card);
-            count(b", stripe ", stripe);
-            words(b"\n");
+            count(rt, b"card ", card);
+            count(rt, b", stripe ", stripe);
+            words(rt, b"\n");
         }
-        _ => refused(numbers::placed(answer)),
+        _ => refused(rt, numbers::placed(answer)),
     }
 }
 
 // Tells how an array of this geometry opens, lent what is right for 5 cards, 5 stripes and blocks of 16 bytes.
-fn tell_open(name: &[u8], geometry: Geometry) {
+fn tell_open(rt: &impl Print, name: &[u8], geometry: Geometry) {
     let work = [0u8; 160];
     let image = [0u8; 400];
     let answer = array::open(geometry, NONE, one_free(), &work, &image).answer;
-    words(name);
+    words(rt, name);
     match answer {
-        Opened::Open => words(b"accepted\n"),
-        _ => refused(numbers::opened(answer)),
+        Opened::Open => words(rt, b"accepted\n"),
+        _ => refused(rt, numbers::opened(answer)),
     }
 }
 
@@ -71,42 +72,46 @@ fn ask(out: u64, write: bool, mask: u64, payload: &[u8]) -> Admission {
 }
 
 // Tells the graph of a write of all four units.
-fn tell_graph(name: &[u8], out: u64) {
+fn tell_graph(rt: &impl Print, name: &[u8], out: u64) {
     let payload = [0u8; 64];
     let asked = ask(out, true, 15, &payload);
     let answer = asked.answer;
-    words(name);
+    words(rt, name);
     match answer {
         Admitted::Taken(_) => {
-            count(b"graph ", asked.record.graph);
-            words(b"\n");
+            count(rt, b"graph ", asked.record.graph);
+            words(rt, b"\n");
         }
-        Admitted::Refused(number) => refused(number),
+        Admitted::Refused(number) => refused(rt, number),
     }
 }
 
 // Tells whether a read of a mask is admitted.
-fn tell_mask(mask: u64) {
+fn tell_mask(rt: &impl Print, mask: u64) {
     let answer = ask(NONE, false, mask, b"").answer;
-    count(b"mask ", mask);
-    words(b": ");
+    count(rt, b"mask ", mask);
+    words(rt, b": ");
     match answer {
-        Admitted::Taken(_) => words(b"accepted\n"),
-        Admitted::Refused(number) => refused(number),
+        Admitted::Taken(_) => words(rt, b"accepted\n"),
+        Admitted::Refused(number) => refused(rt, number),
     }
 }
 
-fn main() {
-    tell_block(19);
-    tell_block(20);
-    tell_graph(b"none out, m=4: ", NONE);
-    tell_graph(b"parity out, m=4: ", geometry::card_at(5, LEVEL_5, 0, 4));
-    tell_open(b"N=2: ", shape(2, 5, 16));
-    tell_open(b"N=9: ", shape(9, 5, 16));
-    tell_open(b"B=24: ", shape(5, 5, 24));
-    tell_open(b"S=0: ", shape(5, 0, 16));
-    tell_open(b"S=1025: ", shape(5, 1025, 16));
-    tell_mask(0);
-    tell_mask(16);
-    tell_mask(15);
+fn main(rt: HostRuntime) {
+    tell_block(&rt, 19);
+    tell_block(&rt, 20);
+    tell_graph(&rt, b"none out, m=4: ", NONE);
+    tell_graph(
+        &rt,
+        b"parity out, m=4: ",
+        geometry::card_at(5, LEVEL_5, 0, 4),
+    );
+    tell_open(&rt, b"N=2: ", shape(2, 5, 16));
+    tell_open(&rt, b"N=9: ", shape(9, 5, 16));
+    tell_open(&rt, b"B=24: ", shape(5, 5, 24));
+    tell_open(&rt, b"S=0: ", shape(5, 0, 16));
+    tell_open(&rt, b"S=1025: ", shape(5, 1025, 16));
+    tell_mask(&rt, 0);
+    tell_mask(&rt, 16);
+    tell_mask(&rt, 15);
 }
