@@ -103,7 +103,7 @@ impl Desk {
     pub(crate) fn same_work(self, other: Desk) -> bool {
         let a = self.work;
         let b = other.work;
-        check::same(&a, &b)
+        a == b
     }
 
     // The desk after a call that left a work store, an image, and a record at a place.
@@ -122,7 +122,14 @@ impl Desk {
     }
 
     // Admits a request of some units of the stripe of a block.
-    pub(crate) fn admit(self, block: u64, write: bool, mask: u64, payload: &[u8]) -> Desk {
+    pub(crate) fn admit(
+        self,
+        rt: &impl Print,
+        block: u64,
+        write: bool,
+        mask: u64,
+        payload: &[u8],
+    ) -> Desk {
         let state = self.state;
         let before = self.table;
         let mut work = self.work;
@@ -139,18 +146,18 @@ impl Desk {
         );
         let answer = made.answer;
         let r = made.record;
-        told::admitted(answer, write, block, r.stripe, r.graph);
+        told::admitted(rt, answer, write, block, r.stripe, r.graph);
         self.after(work, image, made.place, r)
     }
 
     // Tells what step k of record i is.
-    pub(crate) fn name(self, i: u64, k: u64) {
+    pub(crate) fn name(self, rt: &impl Print, i: u64, k: u64) {
         let state = self.state;
-        told::step_name(state.cards, state.layout, self.record(i).stripe, k);
+        told::step_name(rt, state.cards, state.layout, self.record(i).stripe, k);
     }
 
     // Takes step k of record i, and tells what came of it where it is aloud.
-    pub(crate) fn step(self, i: u64, k: u64, aloud: bool) -> Desk {
+    pub(crate) fn step(self, rt: &impl Print, i: u64, k: u64, aloud: bool) -> Desk {
         let state = self.state;
         let before = self.table;
         let mut work = self.work;
@@ -158,23 +165,23 @@ impl Desk {
         let made = array::step(state, before, &mut work, &mut image, i, k);
         let answer = made.answer;
         if aloud {
-            tell(script::INDENT);
-            self.name(i, k);
-            told::stepped(answer);
+            tell(rt, script::INDENT);
+            self.name(rt, i, k);
+            told::stepped(rt, answer);
         }
         let r = made.record;
         self.after(work, image, made.place, r)
     }
 
     // Collects record i: a write, where nothing was sent, or a read, whose units are compared with what was sent.
-    pub(crate) fn collect(self, i: u64, sent: &[u8]) -> Desk {
+    pub(crate) fn collect(self, rt: &impl Print, i: u64, sent: &[u8]) -> Desk {
         let state = self.state;
         let before = self.table;
         let work = self.work;
         let mut result = [0u8; 16];
         let made = array::collect(state, before, &work, i, &mut result);
         let answer = made.answer;
-        let same = told::given(answer, &result, sent);
+        let same = told::given(rt, answer, &result, sent);
         let r = made.record;
         let table = with(before, made.place, r);
         let image = self.image;
@@ -189,7 +196,7 @@ impl Desk {
     }
 
     // Takes a rebuild step, and tells what came of it.
-    pub(crate) fn rebuild(self) -> Desk {
+    pub(crate) fn rebuild(self, rt: &impl Print) -> Desk {
         let before = self.state;
         let table = self.table;
         let work = self.work;
@@ -197,7 +204,7 @@ impl Desk {
         let made = array::rebuild(before, table, &mut image);
         let answer = made.answer;
         let state = made.state;
-        told::rebuilt(answer, state.out);
+        told::rebuilt(rt, answer, state.out);
         Desk {
             state,
             table,

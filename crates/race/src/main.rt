@@ -1,6 +1,7 @@
 // A small race on five cards: swimmers touch, a card dies between two steps of a write, a spare is filled while touches go on, another card dies, and
 // every touch is read back. Each line tells what the library's own calls answered.
 #![tactic(auto)]
+
 use bytes::touches_from;
 use desk::Desk;
 use geometry::{Geometry, LEVEL_5, NONE};
@@ -23,14 +24,14 @@ fn shape() -> Geometry {
 }
 
 // Opens the array over blank cards.
-fn opened() -> Desk {
+fn opened(rt: &impl Print) -> Desk {
     let table = desk::blank(2);
     let work = [0u8; 320];
     let image = [0u8; 400];
     let opening = array::open(shape(), NONE, table, &work, &image);
     let answer = opening.answer;
     let state = opening.state;
-    told::opened(answer, state);
+    told::opened(rt, answer, state);
     Desk {
         state,
         table,
@@ -42,23 +43,24 @@ fn opened() -> Desk {
 }
 
 // The race, from the opening to the last reading, given the first touch of each swimmer, the later ones and the last.
-fn race(first: &[u8], later: &[u8], last: &[u8]) {
-    let desk = scenes::first_lap(opened(), first);
-    let desk = scenes::card_dies(desk, later);
-    let desk = scenes::race_goes_on(desk, later);
-    scenes::read_back(desk, 8, 4, later);
-    let desk = scenes::spare(desk, last);
-    let desk = scenes::another_dies(desk, 5);
-    scenes::read_back(desk, 10, 5, last);
+fn race(rt: &impl Print, first: &[u8], later: &[u8], last: &[u8]) {
+    let desk = scenes::first_lap(rt, opened(rt), first);
+    let desk = scenes::card_dies(rt, desk, later);
+    let desk = scenes::race_goes_on(rt, desk, later);
+    scenes::read_back(rt, desk, 8, 4, later);
+    let desk = scenes::spare(rt, desk, last);
+    let desk = scenes::another_dies(rt, desk, 5);
+    scenes::read_back(rt, desk, 10, 5, last);
 }
 
-fn main() {
+fn main(rt: HostRuntime) {
     let touches =
         b"chip 01 12:04.31chip 02 12:04.33chip 03 12:04.70chip 04 12:04.98chip 05 12:06.12chip 06 12:06.15chip 07 12:06.40chip 08 12:07.02\
         chip 01 12:04.31chip 02 12:04.30chip 03 12:04.70chip 04 12:04.98chip 05 12:18.77chip 06 12:18.79chip 07 12:06.40chip 08 12:07.02\
         chip 01 12:04.31chip 02 12:04.30chip 03 12:04.70chip 04 12:04.98chip 05 12:31.54chip 06 12:18.79chip 07 12:06.40chip 08 12:07.02\
         chip 09 12:31.58chip 10 12:31.50";
     race(
+        &rt,
         touches_from(touches, 0, 8),
         touches_from(touches, 8, 8),
         touches_from(touches, 16, 10),

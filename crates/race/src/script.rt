@@ -1,6 +1,5 @@
 // All that the race says. A sentence is told by its number; in it # stands for the next of the numbers that are told with it.
 // (Each text of its own costs the check more than all of these in one.)
-use libc::STDOUT_FILENO;
 use telling::words;
 
 // The numbers of the sentences, in the order of the script.
@@ -139,8 +138,8 @@ impl Telling {
     }
 
     // Tells the first number, and goes on to the next.
-    fn numbered(self) -> Telling {
-        io::print_decimal(STDOUT_FILENO, self.a);
+    fn numbered(self, rt: &impl Print) -> Telling {
+        let _ = rt.print(self.a);
         Telling {
             before: 0,
             a: self.b,
@@ -151,7 +150,7 @@ impl Telling {
     }
 
     // Goes on over a byte of the script.
-    fn over(self, byte: u8) -> Telling {
+    fn over(self, rt: &impl Print, byte: u8) -> Telling {
         if byte == b'|' {
             return self.ended();
         }
@@ -159,25 +158,25 @@ impl Telling {
             return self;
         }
         if byte == b'#' {
-            return self.numbered();
+            return self.numbered(rt);
         }
-        words(&[byte]);
+        words(rt, &[byte]);
         self
     }
 }
 
 // Goes over a script.
-fn recite(script: &[u8], telling: Telling) {
+fn recite(rt: &impl Print, script: &[u8], telling: Telling) {
     let mut now = telling;
     let mut at = 0;
     while at < script.len() {
-        now = now.over(script[at]);
+        now = now.over(rt, script[at]);
         at += 1;
     }
 }
 
 // Tells a sentence with its numbers.
-pub(crate) fn say(sentence: u64, a: u64, b: u64, c: u64, d: u64) {
+pub(crate) fn say(rt: &impl Print, sentence: u64, a: u64, b: u64, c: u64, d: u64) {
     let telling = Telling {
         before: sentence,
         a,
@@ -186,6 +185,7 @@ pub(crate) fn say(sentence: u64, a: u64, b: u64, c: u64, d: u64) {
         d,
     };
     recite(
+        rt,
         b"The board opens: |\
         # cards, # stripes, blocks of # bytes, # records\n|\
         Four swimmers touch together: the stripe of block #\n|\
@@ -264,27 +264,27 @@ pub(crate) fn say(sentence: u64, a: u64, b: u64, c: u64, d: u64) {
 }
 
 // Tells a sentence that has no numbers.
-pub(crate) fn tell(sentence: u64) {
-    say(sentence, 0, 0, 0, 0);
+pub(crate) fn tell(rt: &impl Print, sentence: u64) {
+    say(rt, sentence, 0, 0, 0, 0);
 }
 
 // Tells a graph by its number and its name.
-pub(crate) fn graph(g: u64) {
+pub(crate) fn graph(rt: &impl Print, g: u64) {
     if g > 6 {
         return;
     }
-    say(GRAPH, g, 0, 0, 0);
-    tell(GRAPHS + g);
-    tell(CLOSED);
+    say(rt, GRAPH, g, 0, 0, 0);
+    tell(rt, GRAPHS + g);
+    tell(rt, CLOSED);
 }
 
 // Tells that a call was refused, by the paper's number, and why.
-pub(crate) fn refused(number: u64) {
+pub(crate) fn refused(rt: &impl Print, number: u64) {
     if number > 15 {
         return;
     }
-    say(REFUSED, number, 0, 0, 0);
-    tell(REASONS + number);
-    tell(CLOSED);
-    tell(END);
+    say(rt, REFUSED, number, 0, 0, 0);
+    tell(rt, REASONS + number);
+    tell(rt, CLOSED);
+    tell(rt, END);
 }
