@@ -17,7 +17,7 @@ use Rattle.geometry.proofs.States.{state_bounds}
 use Rattle.geometry.specs.Limits.{none, no_fill}
 use Rattle.geometry.specs.Report.{with_out, with_lost, with_fill}
 use Rattle.geometry.specs.declared.State.{State}
-use Rattle.array.specs.Refusals.{opened as openedState}
+use Rattle.array.specs.Refusals.{opened as opened_state}
 use Rattle.history.specs.Account.{Account, reported, filled_at, noted}
 use Rattle.history.specs.History.{History, opened, next, decayed, opened_account, out_after, cards_out, OneCard, Whole}
 use Rattle.history.specs.World.{World, Event, admit, step, report, collect, scan, start, rebuild, Engine, play}
@@ -75,10 +75,10 @@ only_after st cards only rebuild k one = unfold filled_at in go (ltb (k + 1) st.
     go false = record { not_lost = only.not_lost; this_out = inl refl }
 
 only_kept : {engine : Engine} {w : World} {a : Account} (h : History engine w a) → OneCard h → Only a.state (cards_out h)
-unfolding cards_out OneCard openedState opened_account
+unfolding cards_out OneCard opened_state opened_account
 only_kept (opened g out table work image ok) one = go (eqb out none) refl
   where
-    go : (t : Bool) → eqb out none ≡ t → Only (openedState g out) (cond t [] (out ∷ []))
+    go : (t : Bool) → eqb out none ≡ t → Only (opened_state g out) (cond t [] (out ∷ []))
     go true f = record { not_lost = refl; this_out = inl (eqb-true out none f) }
     go false f = record { not_lost = refl; this_out = inr (λ d q. all_head d out [] q) }
 only_kept {engine} (next {w} {a} h e) (before, one) = go (ℕ_discrete (engine w e).reply.number 0) (only_kept h before)
@@ -132,10 +132,10 @@ told_after w a same rebuild ok k whole cards told = unfold filled_at in go (ltb 
     go false = record { each_out = unfold every in refl; none_told = λ e. refl }
 
 all_told : {w : World} {a : Account} (h : History play w a) → Whole a → Told a.state (cards_out h)
-unfolding cards_out every openedState opened_account Whole
+unfolding cards_out every opened_state opened_account Whole
 all_told (opened g out table work image ok) whole = go (eqb out none) refl
   where
-    go : (t : Bool) → eqb out none ≡ t → Told (openedState g out) (cond t [] (out ∷ []))
+    go : (t : Bool) → eqb out none ≡ t → Told (opened_state g out) (cond t [] (out ∷ []))
     go true f = record { each_out = refl; none_told = λ e. refl }
     go false f = record { each_out = rw (eq-eqb out out refl); none_told = λ e. absurd (eqb-false out none f e) }
 all_told (next {w} {a} h e) whole = go (ℕ_discrete (play w e).reply.number 0) (all_told h (whole_call play w a e whole))

@@ -241,7 +241,7 @@ pub record Onward (st st' : State) : Type 0 where
 
 -- the bytes of the positions are the same where the geometry is
 pub same_cells : (st st' : State) → geometry_of st' ≡ geometry_of st → (image : List ℕ) (s b p : ℕ) → cells_of st' image s b p ≡ cells_of st image s b p
-same_cells st st' same image s b p = ap (λ (g : Geometry). cells_of (state_of g none 0 no_fill) image s b p) same
+same_cells one other same image s b p = ap (λ (g : Geometry). cells_of (state_of g none 0 no_fill) image s b p) same
 
 pub onward_sure : (w : World) (a : Account) → Sure w a → (st : State) → Onward w.state st → beyond_state st ≡ false → st.lost ≡ 0 → (book : State)
     → Sure (record { state = st; table = w.table; work = w.work; image = w.image }) (record { state = book; row = a.row; entry = a.entry })

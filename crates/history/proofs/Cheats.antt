@@ -14,7 +14,7 @@ use Rattle.record.specs.Life.{free, is_open, is_finished, units_of}
 use Rattle.record.specs.declared.Record.{Record}
 use Rattle.history.specs.Examples.{fill, with_state, with_table}
 use Rattle.history.specs.Promise.{Keeps}
-use Rattle.history.specs.World.{Event, admit, step, report, collect, scan, start as startFill, rebuild, Outcome, Engine, play, record_at}
+use Rattle.history.specs.World.{Event, admit, step, report, collect, scan, start as start_fill, rebuild, Outcome, Engine, play, record_at}
 use Rattle.history.proofs.Runs.{begun, run, bookkeeping, kind_of, record_of, accepts, leaving}
 
 -- ---- one that accepts reports and forgets them
@@ -60,7 +60,7 @@ writes_unit n (step i k) = leb (n + 2) k && ltb k (2 * n + 2)
 writes_unit n (report c) = false
 writes_unit n (collect i result) = false
 writes_unit n scan = false
-writes_unit n startFill = false
+writes_unit n start_fill = false
 writes_unit n rebuild = false
 
 unfoldable pub dropper : Engine

@@ -27,7 +27,7 @@ use Rattle.array.specs.Admission.{keep_units, admission_by, admission}
 use Rattle.array.specs.Collection.{hand_over, collection_by, collection}
 use Rattle.array.specs.Lent.{table_wrong, lent_rows, unit_bytes, rank}
 use Rattle.array.specs.Opening.{opening_by, opening}
-use Rattle.array.specs.Refusals.{opened as openedState, open_refusal, payload_wrong, admit_rows, admit_refusal, step_ready, step_rows, step_refusal, result_short, collect_rows, collect_refusal, scan_rows, scan_refusal, rebuild_rows, rebuild_refusal}
+use Rattle.array.specs.Refusals.{opened as opened_state, open_refusal, payload_wrong, admit_rows, admit_refusal, step_ready, step_rows, step_refusal, result_short, collect_rows, collect_refusal, scan_rows, scan_refusal, rebuild_rows, rebuild_refusal}
 use Rattle.array.specs.Rebuilding.{rebuilding_by, rebuilding}
 use Rattle.array.specs.Scan.{scan_reply_by, scan_reply}
 use Rattle.array.specs.Stepping.{meets_out, sum_byte, sum_at, work_after, image_after, accepting, stepping_by, stepping}
@@ -69,7 +69,7 @@ unfolding open_refusal payload_wrong admit_rows admit_refusal step_ready step_ro
 refusals = tt
 
 unfoldable calls : Unit {0}
-unfolding opening_by opening openedState keep_units admission_by admission hand_over collection_by collection scan_reply_by scan_reply rebuilding_by rebuilding meets_out sum_byte sum_at work_after image_after accepting stepping_by stepping
+unfolding opening_by opening opened_state keep_units admission_by admission hand_over collection_by collection scan_reply_by scan_reply rebuilding_by rebuilding meets_out sum_byte sum_at work_after image_after accepting stepping_by stepping
 calls = tt
 
 unfoldable pub computed : Unit {0}

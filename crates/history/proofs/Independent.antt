@@ -7,7 +7,7 @@ use Rattle.geometry.specs.declared.Geometry.{Geometry}
 use Rattle.geometry.specs.declared.State.{State}
 use Rattle.record.specs.declared.Record.{Record}
 use Rattle.array.specs.Opening.{opening}
-use Rattle.array.specs.Refusals.{opened as openedState}
+use Rattle.array.specs.Refusals.{opened as opened_state}
 use Rattle.history.specs.Account.{Account}
 use Rattle.history.specs.Answers.{Answer, answer_to, start_of, calls_of, answers_of, ran, answered, Alike}
 use Rattle.history.specs.History.{Decayed, History, opened, next, decayed}
@@ -93,6 +93,6 @@ independent h k p c = (
 )
 
 -- open too: of two images that differ at most in the bytes of the card that is out it answers and leaves the same
-pub open_unseen : (g : Geometry) (out : ℕ) (table : List Record) (work image image' : List ℕ) → Decayed (openedState g out) image image'
+pub open_unseen : (g : Geometry) (out : ℕ) (table : List Record) (work image image' : List ℕ) → Decayed (opened_state g out) image image'
     → opening g out table work image' ≡ opening g out table work image
 open_unseen g out table work image image' d = open_same g out table work image image' d

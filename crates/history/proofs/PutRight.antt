@@ -30,7 +30,7 @@ use Rattle.array.proofs.Frames.{cell_put_length, cell_put_same, cell_put_other}
 use Rattle.stripe.proofs.Bytes.{bytes, sum_xor}
 use Rattle.stripe.proofs.Heart.{heart}
 use Rattle.stripe.specs.Blocks.{changed}
-use Rattle.stripe.specs.Group.{sum_to, others as otherOnes}
+use Rattle.stripe.specs.Group.{sum_to, others as other_ones}
 use Rattle.stripe.specs.Invariant.{Idle}
 use Rattle.history.specs.Account.{Account}
 use Rattle.history.specs.World.{World}
@@ -85,12 +85,12 @@ module _ (w : World) (a : Account) (sure : Sure w a) (c t : ℕ) (ht : t < w.sta
     abbrev cells : ℕ → ℕ
     cells = cells_of st w.image t b
 
-    sum_is : xor_to N (others x cells) ≡ sum_to bytes (suc n) (otherOnes bytes x cells)
-    unfolding otherOnes
+    sum_is : xor_to N (others x cells) ≡ sum_to bytes (suc n) (other_ones bytes x cells)
+    unfolding other_ones
     sum_is =
         ap (λ (k : ℕ). xor_to k (others x cells)) (let e : N ≡ suc n = omega (arith, some_unit) in e) ∙ sym (sum_xor (suc n) (others x cells))
 
-    here : cells_of st (filled w c t) t b x ≡ sum_to bytes (suc n) (otherOnes bytes x cells)
+    here : cells_of st (filled w c t) t b x ≡ sum_to bytes (suc n) (other_ones bytes x cells)
     here =
         rw on_card
         (cell_put_same N st.stripes st.block w.image sure.right.image_right c t missing.is_card ht (rest_of st w.image c t) size b hb)
@@ -104,11 +104,11 @@ module _ (w : World) (a : Account) (sure : Sure w a) (c t : ℕ) (ht : t < w.sta
         (card_of_position st t p) t b ht hb
         (λ e f. d (out_position st placing t p (omega (arith, some_unit)) (out_in st t) (sym e ∙ missing.is_out)))
 
-    filled_cells : (p : ℕ) → p ≤ n → cells_of st (filled w c t) t b p ≡ changed cells x (sum_to bytes (suc n) (otherOnes bytes x cells)) p
+    filled_cells : (p : ℕ) → p ≤ n → cells_of st (filled w c t) t b p ≡ changed cells x (sum_to bytes (suc n) (other_ones bytes x cells)) p
     unfolding changed
     filled_cells p l = go (eqb p x) refl
       where
-        go : (u : Bool) → eqb p x ≡ u → cells_of st (filled w c t) t b p ≡ cond u (sum_to bytes (suc n) (otherOnes bytes x cells)) (cells p)
+        go : (u : Bool) → eqb p x ≡ u → cells_of st (filled w c t) t b p ≡ cond u (sum_to bytes (suc n) (other_ones bytes x cells)) (cells p)
         go true e = ap (cells_of st (filled w c t) t b) (eqb-true p x e) ∙ here
         go false e = there p l (eqb-false p x e)
 

@@ -15,7 +15,7 @@ use Rattle.history.specs.History.{History, opened_account, Whole}
 use Rattle.history.specs.History.{opened as begin, next}
 use Rattle.history.specs.Promise.{Idle, blocks_read, Keeps}
 use Rattle.history.specs.Row.{opened_row, written_row, unit_in, gathered, units_of_row}
-use Rattle.history.specs.World.{World, Event, admit, step, report, collect, scan, start as startFill, rebuild, Outcome, Engine, with_image}
+use Rattle.history.specs.World.{World, Event, admit, step, report, collect, scan, start as start_fill, rebuild, Outcome, Engine, with_image}
 use Rattle.history.proofs.Compute.{computed}
 
 -- four cards with units 11, 22, 44 and their parity, none out; two records
@@ -67,7 +67,7 @@ kind_of (step i k) = 2
 kind_of (report c) = 3
 kind_of (collect i result) = 4
 kind_of scan = 0
-kind_of startFill = 0
+kind_of start_fill = 0
 kind_of rebuild = 0
 
 unfoldable pub record_of : Event → ℕ
@@ -76,7 +76,7 @@ record_of (step i k) = i
 record_of (report c) = 0
 record_of (collect i result) = i
 record_of scan = 0
-record_of startFill = 0
+record_of start_fill = 0
 record_of rebuild = 0
 
 -- an accepted call of a kind

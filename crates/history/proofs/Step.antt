@@ -58,6 +58,7 @@ kind_within n N k s h (a_write l) = omega arith
 
 kind_below : (n x k : ℕ) (s : Step) → Kind n k s → On x s → x ≤ n
 kind_below n x k s (a_read l) by_read = l
+kind_below n x k s a_sum o = elim o [ ]
 kind_below n x k s (a_write l) by_write = l
 
 module _ (w : World) (a : Account) (sure : Sure w a) (i k : ℕ) (ok : Ready w.state w.table w.work w.image i k) where

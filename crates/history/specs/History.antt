@@ -10,7 +10,7 @@ use Rattle.geometry.specs.declared.State.{State}
 use Rattle.parity.specs.Parity.{byte_at}
 use Rattle.record.specs.declared.Record.{Record}
 use Rattle.array.specs.Opening.{opening}
-use Rattle.array.specs.Refusals.{opened as openedState}
+use Rattle.array.specs.Refusals.{opened as opened_state}
 use Rattle.history.specs.Account.{Account, vacant, noted}
 use Rattle.history.specs.Row.{opened_row}
 use Rattle.history.specs.World.{World, Event, admit, step, report, collect, scan, start, rebuild, Engine, with_image}
@@ -28,7 +28,7 @@ opened_world g out table work image =
 
 unfoldable pub opened_account : Geometry → ℕ → List ℕ → Account
 opened_account g out image =
-    record { state = openedState g out; row = opened_row (openedState g out) image; entry = λ i. vacant }
+    record { state = opened_state g out; row = opened_row (opened_state g out) image; entry = λ i. vacant }
 
 -- the histories of an engine that end with a world and an account. Which blocks may decay, the account says
 pub data History (engine : Engine) : World → Account → Type 0 where
