@@ -28,7 +28,7 @@ use Rattle.array.specs.Stepping.{meets_out}
 use Rattle.stripe.proofs.Readied.{readied}
 use Rattle.history.specs.Answers.{answer_to, Alike}
 use Rattle.history.specs.History.{Decayed}
-use Rattle.history.specs.World.{World, Event, admit, step, report, collect, scan, start, rebuild, Outcome, play, record_at}
+use Rattle.history.specs.World.{World, Event, admit, step, report, collect, scan, start, rebuild, play, record_at}
 use Rattle.history.proofs.Calls.{work_same, image_same}
 use Rattle.history.proofs.Facts.{bounds, open_fits}
 use Rattle.history.proofs.FillsAlike.{started_same, restored_same}

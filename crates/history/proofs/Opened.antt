@@ -1,14 +1,12 @@
 -- An accepted opening leaves a sure world: every record is free, and every stripe rests on the row that is read off the image.
 -- Assumes nothing.
 use Prim.Native.Nat.{ℕ, ◌≤◌, ◌<◌}
-use mathlib.Core.Bool.{true, false}
 use mathlib.Core.List.{List}
 use mathlib.Core.Logic.{◌⊎◌, inl, inr}
 use mathlib.Core.Path.{◌≡◌, refl, sym, ◌∙◌}
 use native.Mathlib.Omega.{arith}
 use borrow.Author.Tests.{eq-eqb, not-false}
 use lib.ListN.{length, replicate, length-replicate, get_or-replicate}
-use Rattle.terms.specs.Reply.{row}
 use Rattle.terms.proofs.Rows.{true≢false}
 use Rattle.geometry.proofs.Bounds.{Bounds, within_limits, within_limits_out}
 use Rattle.geometry.proofs.Missing.{out_still}
