@@ -7,7 +7,7 @@ use Rattle.record.specs.declared.Record.{Record}
 use Rattle.array.specs.Opening.{Opening}
 use Rattle.history.specs.Account.{Account, entered}
 use Rattle.history.specs.History.{Decayed, History, opened_account}
-use Rattle.history.specs.Serial.{Seen, first_of as firstOfHistory, seen_of as seenOfHistory}
+use Rattle.history.specs.Serial.{Seen, first_of as first_of_history, seen_of as seen_of_history}
 use Rattle.history.specs.World.{World, Event, Outcome, Engine, play, with_image}
 use Rattle.client.specs.Lent.{OpenedByCall, ByCalls}
 use Rattle.client.specs.Packed.{OpenedByFunction, ByFunctions}
@@ -49,8 +49,8 @@ seen_of (decayed r image d) = seen_of r
 -- a run is a history of `play`: with the same worlds and account, the same account at the start, and the same calls with the same outcomes
 pub record IsHistory {by : Contracts} {w : World} {a : Account} (r : Run by w a) : Type 0 where
   pub history : History play w a
-  pub same_first : firstOfHistory history ≡ first_of r
-  pub same_seen : seenOfHistory history ≡ seen_of r
+  pub same_first : first_of_history history ≡ first_of r
+  pub same_seen : seen_of_history history ≡ seen_of r
 
 -- an engine that meets the contracts: each of its outcomes is one that they allow
 unfoldable pub Meets : Contracts → Engine → Type 0
