@@ -28,7 +28,7 @@ add_eight-requires c =
         h_long = ap length c.cell_or_none-h.ensures ∙ long 7;
       },
       (λ q.
-          let few : c.args.cards ≤ 5 = omega (arith, c.if-cards-lt6.true) in
+          let few : c.args.cards ≤ 5 = omega arith in
           record {
             f_zero = c.cell_or_none-f.ensures ∙ none few 5 (omega arith);
             g_zero = c.cell_or_none-g.ensures ∙ none few 6 (omega arith);
