@@ -39,6 +39,7 @@ pub extern "C" fn graph_test_complete(n: u64, g: u64, mask: u64, x: u64, done: u
 }
 
 // Of done steps: 0 where they are wrong, 1 where a step is wanting, 2 where none is.
+#[tactic(auto, unfolding(crate::specs::Numbers::judged_number))]
 #[unsafe(no_mangle)]
 pub extern "C" fn graph_test_judge(n: u64, g: u64, mask: u64, x: u64, done: u64) -> u64
     ensures { result ≡ judged_number (judged n g mask x done) }

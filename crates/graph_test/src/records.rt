@@ -16,6 +16,7 @@ fn at(numbers: &[u64], i: usize) -> u64
     0
 }
 
+#[tactic(auto, unfolding(crate::specs::Numbers::state_from))]
 fn state(numbers: &[u64]) -> State
     ensures { result ≡ state_from numbers.now }
 {
@@ -32,6 +33,7 @@ fn state(numbers: &[u64]) -> State
 }
 
 // The record of the eight numbers from 8·i on.
+#[tactic(auto, unfolding(crate::specs::Numbers::record_from))]
 fn record(numbers: &[u64], i: usize) -> Record
     requires { (i ≤ 8) × (8 * i + 8 ≤ length numbers.now) }
     ensures { result ≡ record_from numbers.now i }
