@@ -9,7 +9,7 @@ fn main() {
         let library = folder.join(format!("lib{name}.a"));
         println!("cargo:rerun-if-changed={}", library.display());
         if !library.exists() {
-            panic!("there is no {}: run `rt staticlib {name}` first", library.display());
+            panic!("there is no {}: run `bin/staticlib {name}` first", library.display());
         }
         println!("cargo:rustc-link-lib=static={name}");
     }

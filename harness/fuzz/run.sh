@@ -17,8 +17,8 @@ if ! command -v clang >/dev/null || ! [ -f "$(clang -print-file-name=libclang_rt
     apt-get update
     apt-get install -y --no-install-recommends clang libclang-rt-dev
 fi
-[ -f "$library" ] || (cd "$root" && rt staticlib recorder)
-[ -f "$root/target/staticlib/libgraph_test.a" ] || (cd "$root" && rt staticlib graph_test)
+[ -f "$library" ] || "$root/bin/staticlib" recorder
+[ -f "$root/target/staticlib/libgraph_test.a" ] || "$root/bin/staticlib" graph_test
 mkdir -p "$out/corpus"
 
 counters='-Cpasses=sancov-module -Cllvm-args=-sanitizer-coverage-level=4

@@ -1,12 +1,13 @@
-//! Runs programs for x86-64: a proved program of the repository, as `rt check` leaves it, or one that a test compiled.
+//! Runs programs for x86-64: a proved program of the repository, as `rt ci` or `rt run` leaves it, or one that a test compiled.
 use std::io::{ErrorKind, Write};
 use std::path::{Path, PathBuf};
 use std::process::{Command, Stdio};
 use std::time::Duration;
 
 fn path(name: &str) -> PathBuf {
-    let program = PathBuf::from(env!("CARGO_MANIFEST_DIR")).join("../target/bin").join(name);
-    assert!(program.exists(), "there is no {}: run `rt check {}` first", program.display(), name);
+    let crates = PathBuf::from(env!("CARGO_MANIFEST_DIR")).join("../crates");
+    let program = crates.join(name).join("out").join(name);
+    assert!(program.exists(), "there is no {}: run `rt run` in its crate first", program.display());
     program
 }
 
