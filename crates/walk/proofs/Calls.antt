@@ -8,7 +8,7 @@ use mathlib.Core.Path.{◌≡◌, sym, subst, ap}
 use Prim.Native.Nat.{ℕ}
 use mathlib.Core.List.{List, [], ◌∷◌, ◌++◌}
 use seplogic.Ra.Ura.{Ura}
-use mir.Syntax.{Name, Place, Opd as Operand, Body, seq, call}
+use mir.Syntax.{Callee as Symbol, Place, Opd as Operand, Body, seq, call}
 use mir.Val.{Val}
 use base.Logic.{SProp, ent, sep, emp, id⊢, via, comm∗, assoc∗, assoc', mono_l, mono_r, fst∗, emp∗}
 use prog.Wp.{Env, Calls, Loops}
@@ -35,7 +35,7 @@ use prog.Model.{Model}
 use prog.Routine.{Routine, Env as Env'}
 use contract.Running.{Running}
 use Rattle.walk.proofs.Data.{Data}
-use Rattle.walk.proofs.Walk.{Machine, Subject, A_of, given_of, clauses_of, calls_of_law, loops_of, framed, tokens, tokens_in, tokens_out, From, from_out}
+use Rattle.walk.proofs.Walk.{Machine, Subject, given_of, clauses_of, calls_of_law, loops_of, framed, tokens, tokens_in, tokens_out, From, from_out}
 
 module _ {M : Type 1} {𝓤 : Ura M} (𝓛 : Logic 𝓤) (T : Ended) (c : Clauses 𝓤 T) where
   -- the callee's contract
@@ -55,7 +55,7 @@ module _ {M : Type 1} {𝓤 : Ura M} (𝓛 : Logic 𝓤) (T : Ended) (c : Clause
     abbrev pub its_tokens : List (Item 𝓤)
     its_tokens = tokens 𝓛 T.signature.lifetimes κs y.0.1
 
-    module _ {K : Type 0} {E : Env 𝓤 H} {C : Calls 𝓤 H} {Λ : Loops 𝓤 H} {q : Post 𝓤 H} {f : Name} {xs : List Operand} {d : Place} {rest : Body} {Γ Δ : List (Item 𝓤)} where
+    module _ {K : Type 0} {E : Env 𝓤 H} {C : Calls 𝓤 H} {Λ : Loops 𝓤 H} {q : Post 𝓤 H} {f : Symbol} {xs : List Operand} {d : Place} {rest : Body} {Γ Δ : List (Item 𝓤)} where
       pub calls_told : K → FmC 𝓤 H 𝓛.laws C → Triple 𝓤 (C f) Told → ent 𝓤 (emp 𝓤) ((c κs a).requires y.1)
           → (val : Res T.signature κs → Val) → Tells (type_at T.signature.result κs) (Is (type_at T.signature.result κs)) (λ r. val r ∷ [])
           → (φ : Res T.signature κs → Lasts T κs a → Type 0) → ((r : Res T.signature κs) (ws : Lasts T κs a) → ent 𝓤 ((c κs a).ensures y.1 r (at_exit T κs a ws)) (fact 𝓤 (φ r ws)))
@@ -70,7 +70,7 @@ module _ {M : Type 1} {𝓤 : Ura M} (𝓛 : Logic 𝓤) (T : Ended) (c : Clause
           by t (via 𝓤 (⋆ 𝓛 (raw (Told.pre y) ∷ Δ))
           (via 𝓤 (sep 𝓤 (sep 𝓤 X O) D) (via 𝓤 (sep 𝓤 X (sep 𝓤 O D)) (via 𝓤 _ (tokens_in 𝓛 T.signature.lifetimes κs y.0.1 Γ) (mono_r 𝓤 X (from_out 𝓛 from))) (assoc' 𝓤 X O D))
           (via 𝓤 _ (mono_l 𝓤 D (via 𝓤 _ (emp∗ 𝓤 (sep 𝓤 X O)) (via 𝓤 _ (comm∗ 𝓤 (emp 𝓤) (sep 𝓤 X O)) (mono_r 𝓤 (sep 𝓤 X O) asks)))) (push 𝓛 (raw (Told.pre y)) Δ)))
-          (calls_at {K = K} {W = 𝓛} t fm Told known y os (λ v.
+          (calls_at {𝓛 = 𝓛} {K = K} t fm Told known y os (λ v.
           use1 𝓛 (later (some (λ (r : Res T.signature κs). (raw X ⊛ ‵ ((type_at T.signature.result κs).own_val r (v ∷ []))) ⊛ raw (ensured 𝓛 T c κs a y.1 r)))) (id⊢ 𝓤 _) $ await t tt $ pick t (λ r.
           split t $ move t (1 ∷ []) $ use1 𝓛 (some (λ (ws : Lasts T κs a). ‵ (lasts T κs a ws) ⊛ raw ((c κs a).ensures y.1 r (at_exit T κs a ws)))) (id⊢ 𝓤 _) $ pick t (λ ws.
           split t $ move t (1 ∷ []) $ use1 𝓛 (raw (fact 𝓤 (φ r ws))) (says r ws) $ heard t (φ r ws) (λ h.
@@ -83,11 +83,11 @@ module _ {M : Type 1} {𝓤 : Ura M} (𝓛 : Logic 𝓤) (T : Ended) (c : Clause
 module _ {M : Type 1} {𝓤 : Ura M} (𝓛 : Logic 𝓤) where
   abbrev entry : {X : Type 0} (e : Exit X) (x : X) → Last e x → List (Item 𝓤) → List (Item 𝓤)
   entry unchanged x w Γ = Γ
-  entry (leaves L l S s) x w Γ = ‵ (l x w) ∷ Γ
+  entry (leaves L l S s r₀) x w Γ = ‵ (l x w) ∷ Γ
 
   entry_out : {X : Type 0} (e : Exit X) (x : X) (w : Last e x) (Γ : List (Item 𝓤)) → ent 𝓤 (sep 𝓤 (sem 𝓛 (left e x w)) (⋆ 𝓛 Γ)) (⋆ 𝓛 (entry e x w Γ))
   entry_out unchanged x w Γ = via 𝓤 _ (comm∗ 𝓤 (emp 𝓤) (⋆ 𝓛 Γ)) (fst∗ 𝓤 (⋆ 𝓛 Γ) (emp 𝓤))
-  entry_out (leaves L l S s) x w Γ = push 𝓛 (‵ (l x w)) Γ
+  entry_out (leaves L l S s r₀) x w Γ = push 𝓛 (‵ (l x w)) Γ
 
   module _ {n : ℕ} (κs : Lfts n) where
     abbrev pub lefts : (ss : List (Slot n)) (ks : Kepts ss) (a : Denots (types_at ss κs)) → Fins κs ss ks a → List (Item 𝓤) → List (Item 𝓤)
@@ -101,7 +101,7 @@ module _ {M : Type 1} {𝓤 : Ura M} (𝓛 : Logic 𝓤) where
         via 𝓤 _ (assoc∗ 𝓤 (sem 𝓛 (left e a.0 ws.0)) (sem 𝓛 (lasts_of κs ss ks.1 a.1 ws.1)) (⋆ 𝓛 Γ))
         (via 𝓤 _ (mono_r 𝓤 (sem 𝓛 (left e a.0 ws.0)) (lefts_out ss ks.1 a.1 ws.1 Γ)) (entry_out e a.0 ws.0 (lefts ss ks.1 a.1 ws.1 Γ)))
 
-module _ {M : Type 1} {𝓤 : Ura M} (𝓛 : Logic 𝓤) (T : Ended) (c : Clauses 𝓤 T) (y : (Told 𝓛 T c).Ghost) {K : Type 0} {E : Env 𝓤 𝓛.H} {C : Calls 𝓤 𝓛.H} {Λ : Loops 𝓤 𝓛.H} {q : Post 𝓤 𝓛.H} {f : Name} {xs : List Operand} {d : Place} {rest : Body} {Γ Δ : List (Item 𝓤)} where
+module _ {M : Type 1} {𝓤 : Ura M} (𝓛 : Logic 𝓤) (T : Ended) (c : Clauses 𝓤 T) (y : (Told 𝓛 T c).Ghost) {K : Type 0} {E : Env 𝓤 𝓛.H} {C : Calls 𝓤 𝓛.H} {Λ : Loops 𝓤 𝓛.H} {q : Post 𝓤 𝓛.H} {f : Symbol} {xs : List Operand} {d : Place} {rest : Body} {Γ Δ : List (Item 𝓤)} where
   open 𝓛 use {H}
 
   pub calls_said : K → FmC 𝓤 H 𝓛.laws C → Triple 𝓤 (C f) (Told 𝓛 T c) → ent 𝓤 (emp 𝓤) ((c y.0.0 y.0.3).requires y.1)
@@ -119,11 +119,11 @@ module _ {M : Type 1} {𝓤 : Ura M} (𝓛 : Logic 𝓤) (T : Ended) (c : Clause
       (via 𝓤 _ (tokens_out 𝓛 T.signature.lifetimes y.0.0 y.0.1 (lefts 𝓛 y.0.0 T.signature.params T.kept y.0.3 ws Δ)) (k r ws h is).prf))))
 
 pub record Callee : Type 2 where
-  pub name : Name
+  pub name : Symbol
   pub routine : Routine
   pub subject : Subject
   pub met : {M : Type 1} {𝓤 : Ura M} (𝓛 : Logic 𝓤) (𝓜 : Model 𝓤 𝓛.H) (𝓡 : Running 𝓤 𝓛.H 𝓜)
-      → Meets 𝓛 subject.ended.signature (𝓡.run routine) (closing 𝓛 subject.ended (subject.clauses 𝓛 𝓜.mem 𝓡.run))
+      → Meets 𝓛 subject.ended.signature (𝓡.run routine) (closing 𝓛 subject.ended (subject.clauses 𝓛 𝓜.mem 𝓡.returns))
 
 module _ (m : Machine) (F : Callee) where
   abbrev pub Called : Type 0
@@ -135,7 +135,7 @@ module _ (m : Machine) (F : Callee) where
         → {φ : Res F.subject.ended.signature y.0.0 → Lasts F.subject.ended y.0.0 y.0.3 → Type 0}
         → ((r : Res F.subject.ended.signature y.0.0) (ws : Lasts F.subject.ended y.0.0 y.0.3) → ent m.𝓤 ((clauses_of m F.subject y.0.0 y.0.3).ensures y.1 r (at_exit F.subject.ended y.0.0 y.0.3 ws)) (fact m.𝓤 (φ r ws)))
         → From m.𝓛 (owns (types_at F.subject.ended.signature.params y.0.0) y.0.3 y.0.4) Γ Δ
-        → Opds K (given_of m) (raw ((Told m.𝓛 F.subject.ended (clauses_of m F.subject)).pre y) ∷ Δ) E xs (passed m.𝓤 m.𝓛.H (A_of m) F.subject.ended.signature y.0)
+        → Opds K (given_of m) (raw ((Told m.𝓛 F.subject.ended (clauses_of m F.subject)).pre y) ∷ Δ) E xs (passed m.𝓛 F.subject.ended.signature y.0)
         → ((r : Res F.subject.ended.signature y.0.0) (ws : Lasts F.subject.ended y.0.0 y.0.3) → φ r ws → Is (type_at F.subject.ended.signature.result y.0.0) r (D.val r ∷ [])
         → Seq K (given_of m) (its_tokens m.𝓛 F.subject.ended (clauses_of m F.subject) y ++ lefts m.𝓛 y.0.0 F.subject.ended.signature.params F.subject.ended.kept y.0.3 ws Δ) (lands (calls_of_law m γ) (loops_of m γ) E d (D.val r) rest q))
         → Seq K (given_of m) (its_tokens m.𝓛 F.subject.ended (clauses_of m F.subject) y ++ Γ) (runs (calls_of_law m γ) (loops_of m γ) E (seq (call F.name xs d) rest) q)
@@ -148,7 +148,7 @@ module _ (m : Machine) (F : Callee) where
         → (D : Data (type_at F.subject.ended.signature.result y.0.0)) (r₀ : Res F.subject.ended.signature y.0.0)
         → ((r : Res F.subject.ended.signature y.0.0) (ws : Lasts F.subject.ended y.0.0 y.0.3) → ent m.𝓤 ((clauses_of m F.subject y.0.0 y.0.3).ensures y.1 r (at_exit F.subject.ended y.0.0 y.0.3 ws)) (fact m.𝓤 (r ≡ r₀)))
         → From m.𝓛 (owns (types_at F.subject.ended.signature.params y.0.0) y.0.3 y.0.4) Γ Δ
-        → Opds K (given_of m) (raw ((Told m.𝓛 F.subject.ended (clauses_of m F.subject)).pre y) ∷ Δ) E xs (passed m.𝓤 m.𝓛.H (A_of m) F.subject.ended.signature y.0)
+        → Opds K (given_of m) (raw ((Told m.𝓛 F.subject.ended (clauses_of m F.subject)).pre y) ∷ Δ) E xs (passed m.𝓛 F.subject.ended.signature y.0)
         → ((ws : Lasts F.subject.ended y.0.0 y.0.3) → Is (type_at F.subject.ended.signature.result y.0.0) r₀ (D.val r₀ ∷ [])
         → Seq K (given_of m) (its_tokens m.𝓛 F.subject.ended (clauses_of m F.subject) y ++ lefts m.𝓛 y.0.0 F.subject.ended.signature.params F.subject.ended.kept y.0.3 ws Δ) (lands (calls_of_law m γ) (loops_of m γ) E d (D.val r₀) rest q))
         → Seq K (given_of m) (its_tokens m.𝓛 F.subject.ended (clauses_of m F.subject) y ++ Γ) (runs (calls_of_law m γ) (loops_of m γ) E (seq (call F.name xs d) rest) q)

@@ -10,7 +10,7 @@ use mathlib.Core.Path.{◌≡◌}
 use Prim.Native.Nat.{ℕ, ◌<◌, ◌^◌}
 use mathlib.Core.List.{List, []}
 use seplogic.Ra.Ura.{Ura}
-use seplogic.Ra.TreeShare.{full_share}
+use base.Fraction.{full_share}
 use lib.Dec.{T}
 use mir.Syntax.{Width, place, copy, int_big, Opd as Operand, Rv as RValue, Body, seq, assign, cond, skip, exit}
 use mathlib.Core.Bool.{Bool, not}

@@ -11,7 +11,7 @@ use Prim.Native.Nat.{ℕ, zero, suc}
 use mathlib.Core.List.{List, [], ◌∷◌, ◌++◌}
 use mathlib.Core.Option.{Option, none, some}
 use seplogic.Ra.Ura.{Ura}
-use seplogic.Ra.TreeShare.{full_share}
+use base.Fraction.{full_share}
 use mir.Syntax.{Ty, Fn, Local, local}
 use mir.Val.{Val}
 use base.Logic.{SProp, ent, sep, id⊢, via, comm∗, assoc∗, assoc', mono_l, mono_r}
@@ -113,9 +113,9 @@ module _ {M : Type 1} {𝓤 : Ura M} {𝓛 : Logic 𝓤} {K : Type 0} where
   pub aside : K → (n : ℕ) {Γ : List (Item 𝓤)} {G : Goal 𝓤 H} → Step K 𝓛 (turned 𝓛 n Γ) G Γ G
   aside t n {Γ} = step (λ s. by t (via 𝓤 _ (turn 𝓛 n Γ) s.prf))
 
-  allocated : K → {Γ : List (Item 𝓤)} (ls : List Local) (Kt : Env 𝓤 H → Goal 𝓤 H) → ((bs : Spots ls) → Seq K 𝓛 (rooms 𝓛 ls bs ++ Γ) (Kt (env_at 𝓛 ls bs))) → Seq K 𝓛 Γ (allocs ls Kt)
+  allocated : K → (ls : List Local) {Γ : List (Item 𝓤)} (Kt : Env 𝓤 H → Goal 𝓤 H) → ((bs : Spots ls) → Seq K 𝓛 (rooms 𝓛 ls bs ++ Γ) (Kt (env_at 𝓛 ls bs))) → Seq K 𝓛 Γ (allocs ls Kt)
   allocated t [] Kt k = alloc0 t $ k tt
-  allocated t {Γ} (local τ h ∷ ls) Kt k = alloc1 t (λ b. allocated t ls (λ E. Kt ((τ, b) ∷ E)) (λ bs. by t
+  allocated t (local τ h ∷ ls) {Γ} Kt k = alloc1 t (λ b. allocated t ls (λ E. Kt ((τ, b) ∷ E)) (λ bs. by t
       (via 𝓤 _ (bring2 𝓛 (rooms 𝓛 ls bs) (‵ (froom τ b zero)) (‵ (fdies τ b)) Γ) (k (b, bs)).prf)))
 
   -- the parameters' values are stored

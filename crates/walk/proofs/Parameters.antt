@@ -74,7 +74,7 @@ module _ {n : ℕ} where
     shared_ref = record {
       stay = stay_none_ref (j ∷ []) ok (plain (λ _. R)) yes;
       goes = λ 𝓛. Goes-none_ref 𝓛 n (j ∷ []) ok (plain (λ _. R)) yes;
-      val = λ κs x. vptr x.ptr.0 x.ptr.1;
+      val = λ κs x. vptr x.ref_ptr.0 x.ref_ptr.1;
       tells = λ κs. shr_Tells (name_of (j ∷ [])) (meet_at n (j ∷ []) ok κs) R;
       lawful = λ 𝓛 κs. shr_Lawful 𝓛 (name_of (j ∷ [])) (meet_at n (j ∷ []) ok κs) R;
     }
@@ -83,7 +83,7 @@ module _ {n : ℕ} where
     kept_ref = record {
       stay = stay_ref (j ∷ []) ok (plain (λ _. R));
       goes = λ 𝓛. Goes-ref 𝓛 n j ok (plain (λ _. R));
-      val = λ κs x. vptr x.ptr.0 x.ptr.1;
+      val = λ κs x. vptr x.ref_ptr.0 x.ref_ptr.1;
       tells = λ κs. mut_Tells (name_of (j ∷ [])) (meet_at n (j ∷ []) ok κs) R;
       lawful = λ 𝓛 κs. mut_Lawful 𝓛 (name_of (j ∷ [])) (meet_at n (j ∷ []) ok κs) R;
     }
@@ -92,7 +92,7 @@ module _ {n : ℕ} where
     given_ref = record {
       stay = gave_ref (j ∷ []) ok (plain (λ _. R));
       goes = λ 𝓛. Goes-gave_ref 𝓛 n j ok (plain (λ _. R));
-      val = λ κs x. vptr x.ptr.0 x.ptr.1;
+      val = λ κs x. vptr x.ref_ptr.0 x.ref_ptr.1;
       tells = λ κs. mut_Tells (name_of (j ∷ [])) (meet_at n (j ∷ []) ok κs) R;
       lawful = λ 𝓛 κs. mut_Lawful 𝓛 (name_of (j ∷ [])) (meet_at n (j ∷ []) ok κs) R;
     }

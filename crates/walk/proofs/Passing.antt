@@ -8,17 +8,17 @@ use mathlib.Core.List.{List, [], ◌∷◌}
 use lib.ListN.{length}
 use seplogic.Ra.Ura.{Ura}
 use mir.Syntax.{Lifetime}
-use base.Fml.{Lft, GName, fsep, feq}
+use base.Fml.{Lft, GName, Fml, fsep, feq}
 use types.Logic.{Logic}
 use types.Kit.{Item, Goal, Seq, Step, step, ‵, ◌⊛◌, ◌$◌, move, use1, split, fsplit, feq_l}
-use denote.RattleType.{RattleType}
+use denote.RattleType.{RattleType, RowLaws}
 use denote.Ref.{Bor}
 use denote.Slice.{ShrSlice, finally, shr_slice_vals, shr_slice_copy}
 
 module _ {M : Type 1} {𝓤 : Ura M} {𝓛 : Logic 𝓤} {K : Type 0} {Γ : List (Item 𝓤)} {G : Goal 𝓤 𝓛.H} where
-  pub twice : K → (R : RattleType) (ℓ : Lifetime) (κ : Lft) (x : Bor (List R.Denot))
+  pub twice : K → (R : RattleType) → RowLaws R → (ℓ : Lifetime) (κ : Lft) (x : Bor (List R.Denot))
       → Step K 𝓛 (‵ ((ShrSlice ℓ κ R).own_val x (shr_slice_vals x)) ∷ ‵ ((ShrSlice ℓ κ R).own_val x (shr_slice_vals x)) ∷ Γ) G (‵ ((ShrSlice ℓ κ R).own_val x (shr_slice_vals x)) ∷ Γ) G
-  twice t R ℓ κ x = step (λ s. use1 𝓛 (‵ ((ShrSlice ℓ κ R).own_val x (shr_slice_vals x)) ⊛ ‵ ((ShrSlice ℓ κ R).own_val x (shr_slice_vals x))) ((shr_slice_copy 𝓛 ℓ κ R).twice x (shr_slice_vals x)) $ split t $ s)
+  twice t R laws ℓ κ x = step (λ s. use1 𝓛 (‵ ((ShrSlice ℓ κ R).own_val x (shr_slice_vals x)) ⊛ ‵ ((ShrSlice ℓ κ R).own_val x (shr_slice_vals x))) ((shr_slice_copy 𝓛 ℓ κ R laws).twice x (shr_slice_vals x)) $ split t $ s)
 
-  pub lasting : K → (R : RattleType) {γ : GName} {ws : List R.Denot} {n : ℕ} → (length ws ≡ n → Seq K 𝓛 (‵ (finally R γ ws) ∷ Γ) G) → Seq K 𝓛 (‵ (fsep (finally R γ ws) (feq ℕ (length ws) n)) ∷ Γ) G
-  lasting t R k = fsplit t $ move t (1 ∷ []) $ feq_l t k
+  pub lasting : K → (R : RattleType) {γ : GName} {ws : List R.Denot} {n : ℕ} {P : Fml} → (length ws ≡ n → Seq K 𝓛 (‵ (finally R γ ws) ∷ ‵ P ∷ Γ) G) → Seq K 𝓛 (‵ (fsep (fsep (finally R γ ws) (feq ℕ (length ws) n)) P) ∷ Γ) G
+  lasting t R k = fsplit t $ fsplit t $ move t (1 ∷ []) $ feq_l t k

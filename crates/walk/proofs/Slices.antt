@@ -6,7 +6,7 @@ use mathlib.Core.Path.{◌≡◌, refl, sym, subst}
 use Prim.Native.Nat.{ℕ, zero}
 use mathlib.Core.List.{List, [], ◌∷◌}
 use seplogic.Ra.Ura.{Ura}
-use seplogic.Ra.TreeShare.{full_share}
+use base.Fraction.{full_share}
 use lib.Dec.{T}
 use mir.Syntax.{Lifetime, Mutability, w64, Ty, ty_int, ty_ref, deref, field, place, copy, aggregate, addr_of, Body, seq, assign}
 use mir.Val.{Val, vint, vptr, vstruct, vnil, vcons, WT, has_ty}

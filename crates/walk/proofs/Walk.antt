@@ -15,7 +15,7 @@ use mathlib.Core.List.{List, [], ◌∷◌, ◌++◌}
 use mathlib.Core.WellFounded.InvImage
 use lib.WfN.{lt-wf_rel}
 use seplogic.Ra.Ura.{Ura}
-use mir.Syntax.{Name, Fn, Body, loop}
+use mir.Syntax.{Callee, Fn, Body, loop}
 use mir.Val.{Val}
 use base.Logic.{SProp, ent, sep, emp, id⊢, via, comm∗, assoc∗, assoc', mono_l, mono_r, fst∗, emp∗}
 use base.Fml.{Fml, ftrue, fsep, flft}
@@ -24,7 +24,7 @@ use prog.Model.{Model}
 use prog.Memory.{Memory}
 use prog.Routine.{Routine, Env as Env'}
 use contract.Monad.{Fun, fact, fact_i}
-use ghost.Atoms.{Atoms, meaning}
+use ghost.Atoms.{Atoms}
 use types.Logic.{Logic, sem}
 use sound.WpLaws.{FmC, fm_of, WpFn-mono}
 use contract.Running.{Running, tables, tables_of}
@@ -103,14 +103,14 @@ module _ (m : Machine) where
   given_of = m.𝓛
 
   abbrev pub clauses_of : (F : Subject) → Clauses m.𝓤 F.ended
-  clauses_of F = F.clauses m.𝓤 m.𝓛.H A_of m.𝓜.mem m.𝓡.run
+  clauses_of F = F.clauses m.𝓛 m.𝓜.mem m.𝓡.returns
 
   -- what plain data owns is had for nothing, and its machine value has its MIR type
-  pub gives : {R : RattleType} (D : Data R) (r : R.Denot) → Is R r (D.val r ∷ []) → ent m.𝓤 (emp m.𝓤) (meaning m.𝓤 m.𝓛.H A_of (R.own_val r (D.val r ∷ [])))
-  gives D r is = D.makes m.𝓤 m.𝓛.H A_of given_of r _ is
+  pub gives : {R : RattleType} (D : Data R) (r : R.Denot) → Is R r (D.val r ∷ []) → ent m.𝓤 (emp m.𝓤) (sem m.𝓛 (R.own_val r (D.val r ∷ [])))
+  gives D r is = D.makes m.𝓛 r _ is
 
   pub typed : {R : RattleType} (D : Data R) (r : R.Denot) → Is R r (D.val r ∷ []) → Typed R.mir (D.val r ∷ [])
-  typed D r is = (D.lawful m.𝓤 m.𝓛.H A_of given_of).typed r _ is
+  typed D r is = (D.lawful m.𝓛).typed r _ is
 
   -- a fact is had for nothing
   pub holds : {φ : Type 0} → φ → ent m.𝓤 (emp m.𝓤) (fact m.𝓤 φ)
@@ -130,7 +130,7 @@ module _ (m : Machine) where
 
     -- a loop, by an invariant and a measure (`Types/Run.antt`'s `loops`)
     pub turns : {K : Type 0} {X : Type 0} → K → (μ : X → ℕ) (I : X → List (Item m.𝓤)) {E : Env m.𝓤 m.𝓛.H} {b : Body} {q : Post m.𝓤 m.𝓛.H}
-        → ((t : X) → Seq K given_of (I t) (runs calls_of_law loops_of E b (any_q (after_turn m.𝓤 m.𝓛.H (Below m.𝓤 m.𝓛.H A_of (λ (y x : X). μ y < μ x) I t) (post m.𝓤 m.𝓛.H q)))))
+        → ((t : X) → Seq K given_of (I t) (runs calls_of_law loops_of E b (any_q (after_turn m.𝓤 m.𝓛.H (Below m.𝓛 (λ (y x : X). μ y < μ x) I t) (post m.𝓤 m.𝓛.H q)))))
         → (t : X) → Seq K given_of (I t) (runs calls_of_law loops_of E (loop b) q)
     unfolding tables_of
     turns k μ I turn t = loops k (tables_of m.𝓤 m.𝓛.H m.𝓜 (tables m.𝓤 m.𝓛.H m.𝓜 m.𝓡 γ)) (λ y x. μ y < μ x) (InvImage.wf μ lt-wf_rel.wf) I turn t
@@ -148,7 +148,7 @@ module _ (m : Machine) (F : Subject) (ps : Known F) where
   stayed = stays S.params F.ended.kept ps
 
   abbrev the_walk : Contract m.𝓤
-  the_walk = walk_of m.𝓤 m.𝓛.H (A_of m) F.ended stayed (clauses_of m F)
+  the_walk = walk_of m.𝓛 F.ended stayed (clauses_of m F)
 
   -- what the function is called with
   pub record Entry : Type 2 where
@@ -181,16 +181,16 @@ module _ (m : Machine) (F : Subject) (ps : Known F) where
         → {Γ Δ : List (Item m.𝓤)} → From m.𝓛 (has_of e.lfts S.params F.ended.kept stayed e.args ws values) Γ Δ
         → Sq (given_of m) (tokens m.𝓛 S.lifetimes e.lfts e.shares ++ Γ) (prop (End (D.val r)))
     ends D r is ws fit said {Γ} {Δ} f =
-        let P : SProp m.𝓤 = meaning m.𝓤 m.𝓛.H (A_of m) (has_of e.lfts S.params F.ended.kept stayed e.args ws values) in
-        let R : SProp m.𝓤 = meaning m.𝓤 m.𝓛.H (A_of m) ((type_at S.result e.lfts).own_val r (D.val r ∷ [])) in
+        let P : SProp m.𝓤 = sem m.𝓛 (has_of e.lfts S.params F.ended.kept stayed e.args ws values) in
+        let R : SProp m.𝓤 = sem m.𝓛 ((type_at S.result e.lfts).own_val r (D.val r ∷ [])) in
         let Q : SProp m.𝓤 = (clauses_of m F e.lfts e.args).ensures e.ghosts r (at_exit F.ended e.lfts e.args ws) in
-        let X : SProp m.𝓤 = toks {𝓤 = m.𝓤} _ S.lifetimes e.lfts e.shares in
+        let X : SProp m.𝓤 = toks m.𝓛 S.lifetimes e.lfts e.shares in
         by ! (via m.𝓤 (sep m.𝓤 (sep m.𝓤 X (sep m.𝓤 P R)) Q)
         (via m.𝓤 (sep m.𝓤 X (sep m.𝓤 P R))
-        (via m.𝓤 (sep m.𝓤 X P) (via m.𝓤 _ (tokens_in m.𝓛 S.lifetimes e.lfts e.shares Γ) (mono_r m.𝓤 X (via m.𝓤 _ (from_out m.𝓛 f) (fst∗ m.𝓤 P (⋆ m.𝓤 m.𝓛.H (A_of m) Δ)))))
+        (via m.𝓤 (sep m.𝓤 X P) (via m.𝓤 _ (tokens_in m.𝓛 S.lifetimes e.lfts e.shares Γ) (mono_r m.𝓤 X (via m.𝓤 _ (from_out m.𝓛 f) (fst∗ m.𝓤 P (⋆ m.𝓛 Δ)))))
         (mono_r m.𝓤 X (via m.𝓤 _ (emp∗ m.𝓤 P) (via m.𝓤 _ (comm∗ m.𝓤 (emp m.𝓤) P) (mono_r m.𝓤 P (gives m D r is))))))
         (via m.𝓤 _ (emp∗ m.𝓤 (sep m.𝓤 X (sep m.𝓤 P R))) (via m.𝓤 _ (comm∗ m.𝓤 (emp m.𝓤) (sep m.𝓤 X (sep m.𝓤 P R))) (mono_r m.𝓤 (sep m.𝓤 X (sep m.𝓤 P R)) said))))
-        (ends_at m.𝓤 m.𝓛.H (A_of m) F.ended stayed (clauses_of m F) (given_of m) bound (D.val r) r ws fit))
+        (ends_at m.𝓛 F.ended stayed (clauses_of m F) bound (D.val r) r ws fit))
 
     -- the walk goes on at a later line of the body
     pub resumes : {K : Type 0} {Γ : List (Item m.𝓤)} → K → (γ : Env') (f : Fn) (l : Spots f.locals) (b : Body)
@@ -204,33 +204,33 @@ module _ (m : Machine) (F : Subject) (ps : Known F) where
       follows b = any_q (after_block m.𝓤 m.𝓛.H (after_seq m.𝓤 m.𝓛.H (Wp m.𝓤 m.𝓛.H (calls_of_law m γ) (loops_of m γ) (env_at m.𝓛 f.locals l) b (at_return m.𝓤 m.𝓛.H (env_at m.𝓛 f.locals l) End)) (at_return m.𝓤 m.𝓛.H (env_at m.𝓛 f.locals l) End)))
 
       abbrev pub Turn : Body → Body → {X : Type 0} (μ : X → ℕ) (I : X → List (Item m.𝓤)) → X → Type 1
-      Turn a b {X} μ I t = Sq (given_of m) (I t) (runs (calls_of_law m γ) (loops_of m γ) (env_at m.𝓛 f.locals l) a (any_q (after_turn m.𝓤 m.𝓛.H (Below m.𝓤 m.𝓛.H (A_of m) (λ (y x : X). μ y < μ x) I t) (post m.𝓤 m.𝓛.H (follows b)))))
+      Turn a b {X} μ I t = Sq (given_of m) (I t) (runs (calls_of_law m γ) (loops_of m γ) (env_at m.𝓛 f.locals l) a (any_q (after_turn m.𝓤 m.𝓛.H (Below m.𝓛 (λ (y x : X). μ y < μ x) I t) (post m.𝓤 m.𝓛.H (follows b)))))
 
     -- the walk begins
     begins : (γ : Env') (f : Fn) → Begins (mirs (types_at S.params e.lfts)) f.locals → Walk γ f
         → ent m.𝓤 (the_walk.pre bound) (WpFn m.𝓤 m.𝓛.H (calls_of_law m γ) (loops_of m γ) f (flat (types_at S.params e.lfts) values) End)
     begins γ f same k =
-        via m.𝓤 _ (fst∗ m.𝓤 (on_entry m.𝓤 m.𝓛.H (A_of m) S e.lfts e.shares e.args values) ((clauses_of m F e.lfts e.args).requires e.ghosts))
-        (via m.𝓤 _ (mono_r m.𝓤 (toks {𝓤 = m.𝓤} _ S.lifetimes e.lfts e.shares) (owned_out m.𝓛 (types_at S.params e.lfts) e.args values))
+        via m.𝓤 _ (fst∗ m.𝓤 (on_entry m.𝓛 S e.lfts e.shares e.args values) ((clauses_of m F e.lfts e.args).requires e.ghosts))
+        (via m.𝓤 _ (mono_r m.𝓤 (toks m.𝓛 S.lifetimes e.lfts e.shares) (owned_out m.𝓛 (types_at S.params e.lfts) e.args values))
         (via m.𝓤 _ (tokens_out m.𝓛 S.lifetimes e.lfts e.shares (owneds m.𝓛 (types_at S.params e.lfts) e.args values))
         (qed (given_of m) (tokens m.𝓛 S.lifetimes e.lfts e.shares ++ owneds m.𝓛 (types_at S.params e.lfts) e.args values) ∵
         enters ! (calls_of_law m γ) (loops_of m γ) f (mirs (types_at S.params e.lfts)) (flat (types_at S.params e.lfts) values) same
-        (all_Typed m.𝓤 m.𝓛.H (A_of m) (types_at S.params e.lfts) (lawful_all (given_of m) S.params F.ended.kept ps e.lfts) e.args values e.are) k)))
+        (all_Typed m.𝓛 (types_at S.params e.lfts) (lawful_all (given_of m) S.params F.ended.kept ps e.lfts) e.args values e.are) k)))
 
 -- a function meets its contract, from its walk
-pub proven : {M : Type 1} (F : Subject) (ps : Known F) (k : Name) (f : Fn) (γ : Env')
+pub proven : {M : Type 1} (F : Subject) (ps : Known F) (k : Callee) (f : Fn) (γ : Env')
     → ((M : Type 1) (𝓤 : Ura M) (H : Heap 𝓤) (𝓜 : Model 𝓤 H) (𝓡 : Running 𝓤 H 𝓜) → Closed 𝓤 H (tables 𝓤 H 𝓜 𝓡 γ).C (tables 𝓤 H 𝓜 𝓡 γ).Λ k f)
     → ((κs : Lfts F.ended.signature.lifetimes) → Begins (mirs (types_at F.ended.signature.params κs)) f.locals)
     → ((m : Machine) (e : Entry m F ps) → Walk m F ps e γ f)
     → (𝓤 : Ura M) (𝓛 : Logic 𝓤) (𝓜 : Model 𝓤 𝓛.H) (𝓡 : Running 𝓤 𝓛.H 𝓜)
-    → Meets 𝓛 F.ended.signature ((tables 𝓤 𝓛.H 𝓜 𝓡 γ).C k) (closing 𝓛 F.ended (F.clauses 𝓛 𝓜.mem 𝓡.run))
+    → Meets 𝓛 F.ended.signature ((tables 𝓤 𝓛.H 𝓜 𝓡 γ).C k) (closing 𝓛 F.ended (F.clauses 𝓛 𝓜.mem 𝓡.returns))
 unfolding tables_of
 proven {M} F ps k f γ closed same w 𝓤 𝓛 𝓜 𝓡 =
     let m : Machine = record { M = M; 𝓤 = 𝓤; 𝓛 = 𝓛; 𝓜 = 𝓜; 𝓡 = 𝓡 } in
     let S : Signature = F.ended.signature in
-    let c : Clauses 𝓤 F.ended = F.clauses 𝓛 𝓜.mem 𝓡.run in
+    let c : Clauses 𝓤 F.ended = F.clauses 𝓛 𝓜.mem 𝓡.returns in
     at_entry_lem 𝓤 𝓛.H (triple_of 𝓛 S (closing 𝓛 F.ended c)) (calls_of_law m γ) (loops_of m γ) k f (closed M 𝓤 𝓛.H 𝓜 𝓡)
-    (walk_Meets 𝓛 F.ended (stays S.params F.ended.kept ps) (given_of m) (go_all (given_of m) S.params F.ended.kept ps) c
+    (walk_Meets 𝓛 F.ended (stays S.params F.ended.kept ps) (go_all (given_of m) S.params F.ended.kept ps) c
     (WpFn 𝓤 𝓛.H (calls_of_law m γ) (loops_of m γ) f) (WpFn-mono 𝓤 𝓛.H (given_of m).laws (tables_of 𝓤 𝓛.H 𝓜 (tables 𝓤 𝓛.H 𝓜 𝓡 γ)) f)
     (walked 𝓛 F.ended (stays S.params F.ended.kept ps) c (WpFn 𝓤 𝓛.H (calls_of_law m γ) (loops_of m γ) f) (spells S.params F.ended.kept ps) (tells_all S.params F.ended.kept ps) (λ κs qs bounds a g are.
     let e : Entry m F ps = record { lfts = κs; shares = qs; outlive = bounds; args = a; ghosts = g; are = are } in

@@ -8,7 +8,7 @@ pub use native.Mathlib.Omega.{arith}
 pub use lib.Dec.{T as Holds, lit<, ltb→lt, nltb→le}
 pub use lib.ListN.{length, get_or, set, replicate, length-set}
 pub use seplogic.Ra.Ura.{Ura}
-pub use seplogic.Ra.TreeShare.{full_share}
+pub use base.Fraction.{full_share}
 pub use mir.Syntax.{Lifetime, named, w64, ty_int, ty_ptr, deref, place, copy, rv_opd, Place, Opd as Operand, Rv as RValue, Body, seq, assign, call}
 pub use mir.Val.{Val, vint, vptr, vunit, vstruct, of_list, Fits, WT, has_ty}
 pub use base.Logic.{SProp, id⊢}
@@ -16,7 +16,7 @@ pub use base.Fml.{Lft, GName, Share, Fml, fat, froom, flft}
 pub use prog.Routine.{Env as Env'}
 pub use prog.Wp.{Heap, Env, Calls, Loops, spot_of}
 pub use ghost.Atoms.{Atoms}
-pub use types.Kit.{Given, Item, ‵, raw, ◌⊛◌, nth, put, Goal, Soaks, Post, prop, runs, lands, at_ret, Seq, Sq, Step, step, ◌$◌, !, move, keep, drop, rewrite, use1, split, fsplit, fsplit3, fjoin, fjoin3, feq_i}
+pub use types.Kit.{Item, ‵, raw, ◌⊛◌, nth, put, Goal, Soaks, Post, prop, runs, lands, at_ret, Seq, Sq, Step, step, ◌$◌, !, move, keep, drop, rewrite, use1, split, fsplit, fsplit3, fjoin, fjoin3, feq_i}
 pub use types.Run.{Opds, Rv, again, look, look_raw, store, store_raw, init, forget, stop, fld, hop, from, load, lit, unit_lit, of_opd, bin, addr, assigns, assigns_last, first, blocks, skips, branches, and_then, no_more, returns, returns_within}
 pub use types.Part.{agg, rep, whole, sub, look_in, store_in}
 pub use denote.Builtin.{u8, u64, bool}
