@@ -30,9 +30,8 @@ use denote.Triple.Call.{calls_at}
 use denote.Triple.Clauses.{Clauses, Ended, Lasts, at_exit, lasts, ensured, closing}
 use denote.Triple.Spec.{Meets, triple_of}
 use denote.Triple.Statement.{Contract, Triple}
-use denote.Triple.Table.{cited}
 use prog.Model.{Model}
-use prog.Routine.{Routine, Env as Env'}
+use prog.Wired.{Code, Wired}
 use contract.Running.{Running}
 use Rattle.walk.proofs.Data.{Data}
 use Rattle.walk.proofs.Walk.{Machine, Subject, given_of, clauses_of, calls_of_law, loops_of, framed, tokens, tokens_in, tokens_out, From, from_out}
@@ -120,16 +119,16 @@ module _ {M : Type 1} {𝓤 : Ura M} (𝓛 : Logic 𝓤) (T : Ended) (c : Clause
 
 pub record Callee : Type 2 where
   pub name : Symbol
-  pub routine : Routine
+  pub code : Code
   pub subject : Subject
-  pub met : {M : Type 1} {𝓤 : Ura M} (𝓛 : Logic 𝓤) (𝓜 : Model 𝓤 𝓛.H) (𝓡 : Running 𝓤 𝓛.H 𝓜)
-      → Meets 𝓛 subject.ended.signature (𝓡.run routine) (closing 𝓛 subject.ended (subject.clauses 𝓛 𝓜.mem 𝓡.returns))
+  pub met : {M : Type 1} (𝓤 : Ura M) (𝓛 : Logic 𝓤) (𝓜 : Model 𝓤 𝓛.H) (𝓡 : Running 𝓤 𝓛.H 𝓜) → Wired 𝓡.env code
+      → Meets 𝓛 subject.ended.signature (𝓡.run (𝓡.env name)) (closing 𝓛 subject.ended (subject.clauses 𝓛 𝓜.mem 𝓡.returns))
 
 module _ (m : Machine) (F : Callee) where
   abbrev pub Called : Type 0
   Called = (Told m.𝓛 F.subject.ended (clauses_of m F.subject)).Ghost
 
-  module _ (γ : Env') (key : γ F.name ≡ F.routine) (y : Called) {K : Type 0} {E : Env m.𝓤 m.𝓛.H} {q : Post m.𝓤 m.𝓛.H} {xs : List Operand} {d : Place} {rest : Body} {Γ Δ : List (Item m.𝓤)} where
+  module _ (wired : Wired m.𝓡.env F.code) (y : Called) {K : Type 0} {E : Env m.𝓤 m.𝓛.H} {q : Post m.𝓤 m.𝓛.H} {xs : List Operand} {d : Place} {rest : Body} {Γ Δ : List (Item m.𝓤)} where
     pub calls : K → ent m.𝓤 (emp m.𝓤) ((clauses_of m F.subject y.0.0 y.0.3).requires y.1)
         → (D : Data (type_at F.subject.ended.signature.result y.0.0))
         → {φ : Res F.subject.ended.signature y.0.0 → Lasts F.subject.ended y.0.0 y.0.3 → Type 0}
@@ -137,11 +136,11 @@ module _ (m : Machine) (F : Callee) where
         → From m.𝓛 (owns (types_at F.subject.ended.signature.params y.0.0) y.0.3 y.0.4) Γ Δ
         → Opds K (given_of m) (raw ((Told m.𝓛 F.subject.ended (clauses_of m F.subject)).pre y) ∷ Δ) E xs (passed m.𝓛 F.subject.ended.signature y.0)
         → ((r : Res F.subject.ended.signature y.0.0) (ws : Lasts F.subject.ended y.0.0 y.0.3) → φ r ws → Is (type_at F.subject.ended.signature.result y.0.0) r (D.val r ∷ [])
-        → Seq K (given_of m) (its_tokens m.𝓛 F.subject.ended (clauses_of m F.subject) y ++ lefts m.𝓛 y.0.0 F.subject.ended.signature.params F.subject.ended.kept y.0.3 ws Δ) (lands (calls_of_law m γ) (loops_of m γ) E d (D.val r) rest q))
-        → Seq K (given_of m) (its_tokens m.𝓛 F.subject.ended (clauses_of m F.subject) y ++ Γ) (runs (calls_of_law m γ) (loops_of m γ) E (seq (call F.name xs d) rest) q)
+        → Seq K (given_of m) (its_tokens m.𝓛 F.subject.ended (clauses_of m F.subject) y ++ lefts m.𝓛 y.0.0 F.subject.ended.signature.params F.subject.ended.kept y.0.3 ws Δ) (lands (calls_of_law m m.𝓡.env) (loops_of m m.𝓡.env) E d (D.val r) rest q))
+        → Seq K (given_of m) (its_tokens m.𝓛 F.subject.ended (clauses_of m F.subject) y ++ Γ) (runs (calls_of_law m m.𝓡.env) (loops_of m m.𝓡.env) E (seq (call F.name xs d) rest) q)
     calls t asks D {φ} says from os k =
-        calls_said (given_of m) F.subject.ended (clauses_of m F.subject) y t (framed m γ)
-        (cited m.𝓤 m.𝓛.H (Told m.𝓛 F.subject.ended (clauses_of m F.subject)) m.𝓜 m.𝓡 γ F.name F.routine key (F.met m.𝓛 m.𝓜 m.𝓡))
+        calls_said (given_of m) F.subject.ended (clauses_of m F.subject) y t (framed m m.𝓡.env)
+        (F.met m.𝓤 m.𝓛 m.𝓜 m.𝓡 wired)
         asks D.val D.tells φ says from os k
 
     pub answers : K → ent m.𝓤 (emp m.𝓤) ((clauses_of m F.subject y.0.0 y.0.3).requires y.1)
@@ -150,10 +149,10 @@ module _ (m : Machine) (F : Callee) where
         → From m.𝓛 (owns (types_at F.subject.ended.signature.params y.0.0) y.0.3 y.0.4) Γ Δ
         → Opds K (given_of m) (raw ((Told m.𝓛 F.subject.ended (clauses_of m F.subject)).pre y) ∷ Δ) E xs (passed m.𝓛 F.subject.ended.signature y.0)
         → ((ws : Lasts F.subject.ended y.0.0 y.0.3) → Is (type_at F.subject.ended.signature.result y.0.0) r₀ (D.val r₀ ∷ [])
-        → Seq K (given_of m) (its_tokens m.𝓛 F.subject.ended (clauses_of m F.subject) y ++ lefts m.𝓛 y.0.0 F.subject.ended.signature.params F.subject.ended.kept y.0.3 ws Δ) (lands (calls_of_law m γ) (loops_of m γ) E d (D.val r₀) rest q))
-        → Seq K (given_of m) (its_tokens m.𝓛 F.subject.ended (clauses_of m F.subject) y ++ Γ) (runs (calls_of_law m γ) (loops_of m γ) E (seq (call F.name xs d) rest) q)
+        → Seq K (given_of m) (its_tokens m.𝓛 F.subject.ended (clauses_of m F.subject) y ++ lefts m.𝓛 y.0.0 F.subject.ended.signature.params F.subject.ended.kept y.0.3 ws Δ) (lands (calls_of_law m m.𝓡.env) (loops_of m m.𝓡.env) E d (D.val r₀) rest q))
+        → Seq K (given_of m) (its_tokens m.𝓛 F.subject.ended (clauses_of m F.subject) y ++ Γ) (runs (calls_of_law m m.𝓡.env) (loops_of m m.𝓡.env) E (seq (call F.name xs d) rest) q)
     answers t asks D r₀ says from os k =
         calls t asks D says from os (λ r ws e is.
         subst (λ (r' : Res F.subject.ended.signature y.0.0). Is (type_at F.subject.ended.signature.result y.0.0) r' (D.val r' ∷ [])
-        → Seq K (given_of m) (its_tokens m.𝓛 F.subject.ended (clauses_of m F.subject) y ++ lefts m.𝓛 y.0.0 F.subject.ended.signature.params F.subject.ended.kept y.0.3 ws Δ) (lands (calls_of_law m γ) (loops_of m γ) E d (D.val r') rest q))
+        → Seq K (given_of m) (its_tokens m.𝓛 F.subject.ended (clauses_of m F.subject) y ++ lefts m.𝓛 y.0.0 F.subject.ended.signature.params F.subject.ended.kept y.0.3 ws Δ) (lands (calls_of_law m m.𝓡.env) (loops_of m m.𝓡.env) E d (D.val r') rest q))
         (sym e) (k ws) is)

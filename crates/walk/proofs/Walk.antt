@@ -23,6 +23,7 @@ use prog.Wp.{Heap, Env, Calls, Loops, Wp, WpFn, Closed, after_turn, after_block,
 use prog.Model.{Model}
 use prog.Memory.{Memory}
 use prog.Routine.{Routine, Env as Env'}
+use prog.Wired.{Code, Wired}
 use contract.Monad.{Fun, fact, fact_i}
 use ghost.Atoms.{Atoms}
 use types.Logic.{Logic, sem}
@@ -217,21 +218,22 @@ module _ (m : Machine) (F : Subject) (ps : Known F) where
         enters ! (calls_of_law m γ) (loops_of m γ) f (mirs (types_at S.params e.lfts)) (flat (types_at S.params e.lfts) values) same
         (all_Typed m.𝓛 (types_at S.params e.lfts) (lawful_all (given_of m) S.params F.ended.kept ps e.lfts) e.args values e.are) k)))
 
--- a function meets its contract, from its walk
-pub proven : {M : Type 1} (F : Subject) (ps : Known F) (k : Callee) (f : Fn) (γ : Env')
-    → ((M : Type 1) (𝓤 : Ura M) (H : Heap 𝓤) (𝓜 : Model 𝓤 H) (𝓡 : Running 𝓤 H 𝓜) → Closed 𝓤 H (tables 𝓤 H 𝓜 𝓡 γ).C (tables 𝓤 H 𝓜 𝓡 γ).Λ k f)
+-- a function meets its contract, from its walk over the environment in which its statement reads its names, where that has the function's code c (`Prog/Wired.antt`)
+pub proven : {M : Type 1} (F : Subject) (ps : Known F) (k : Callee) (f : Fn) (c : Code)
+    → ((M : Type 1) (𝓤 : Ura M) (H : Heap 𝓤) (𝓜 : Model 𝓤 H) (𝓡 : Running 𝓤 H 𝓜) → Wired 𝓡.env c → Closed 𝓤 H (tables 𝓤 H 𝓜 𝓡 𝓡.env).C (tables 𝓤 H 𝓜 𝓡 𝓡.env).Λ k f)
     → ((κs : Lfts F.ended.signature.lifetimes) → Begins (mirs (types_at F.ended.signature.params κs)) f.locals)
-    → ((m : Machine) (e : Entry m F ps) → Walk m F ps e γ f)
-    → (𝓤 : Ura M) (𝓛 : Logic 𝓤) (𝓜 : Model 𝓤 𝓛.H) (𝓡 : Running 𝓤 𝓛.H 𝓜)
-    → Meets 𝓛 F.ended.signature ((tables 𝓤 𝓛.H 𝓜 𝓡 γ).C k) (closing 𝓛 F.ended (F.clauses 𝓛 𝓜.mem 𝓡.returns))
+    → ((m : Machine) → Wired m.𝓡.env c → (e : Entry m F ps) → Walk m F ps e m.𝓡.env f)
+    → (𝓤 : Ura M) (𝓛 : Logic 𝓤) (𝓜 : Model 𝓤 𝓛.H) (𝓡 : Running 𝓤 𝓛.H 𝓜) → Wired 𝓡.env c
+    → Meets 𝓛 F.ended.signature (𝓡.run (𝓡.env k)) (closing 𝓛 F.ended (F.clauses 𝓛 𝓜.mem 𝓡.returns))
 unfolding tables_of
-proven {M} F ps k f γ closed same w 𝓤 𝓛 𝓜 𝓡 =
+proven {M} F ps k f c closed same w 𝓤 𝓛 𝓜 𝓡 wired =
     let m : Machine = record { M = M; 𝓤 = 𝓤; 𝓛 = 𝓛; 𝓜 = 𝓜; 𝓡 = 𝓡 } in
+    let γ : Env' = 𝓡.env in
     let S : Signature = F.ended.signature in
-    let c : Clauses 𝓤 F.ended = F.clauses 𝓛 𝓜.mem 𝓡.returns in
-    at_entry_lem 𝓤 𝓛.H (triple_of 𝓛 S (closing 𝓛 F.ended c)) (calls_of_law m γ) (loops_of m γ) k f (closed M 𝓤 𝓛.H 𝓜 𝓡)
-    (walk_Meets 𝓛 F.ended (stays S.params F.ended.kept ps) (go_all (given_of m) S.params F.ended.kept ps) c
+    let cs : Clauses 𝓤 F.ended = F.clauses 𝓛 𝓜.mem 𝓡.returns in
+    at_entry_lem 𝓤 𝓛.H (triple_of 𝓛 S (closing 𝓛 F.ended cs)) (calls_of_law m γ) (loops_of m γ) k f (closed M 𝓤 𝓛.H 𝓜 𝓡 wired)
+    (walk_Meets 𝓛 F.ended (stays S.params F.ended.kept ps) (go_all (given_of m) S.params F.ended.kept ps) cs
     (WpFn 𝓤 𝓛.H (calls_of_law m γ) (loops_of m γ) f) (WpFn-mono 𝓤 𝓛.H (given_of m).laws (tables_of 𝓤 𝓛.H 𝓜 (tables 𝓤 𝓛.H 𝓜 𝓡 γ)) f)
-    (walked 𝓛 F.ended (stays S.params F.ended.kept ps) c (WpFn 𝓤 𝓛.H (calls_of_law m γ) (loops_of m γ) f) (spells S.params F.ended.kept ps) (tells_all S.params F.ended.kept ps) (λ κs qs bounds a g are.
+    (walked 𝓛 F.ended (stays S.params F.ended.kept ps) cs (WpFn 𝓤 𝓛.H (calls_of_law m γ) (loops_of m γ) f) (spells S.params F.ended.kept ps) (tells_all S.params F.ended.kept ps) (λ κs qs bounds a g are.
     let e : Entry m F ps = record { lfts = κs; shares = qs; outlive = bounds; args = a; ghosts = g; are = are } in
-    begins m F ps e γ f (same κs) (w m e))))
+    begins m F ps e γ f (same κs) (w m wired e))))

@@ -14,6 +14,7 @@ pub use mir.Val.{Val, vint, vptr, vunit, vstruct, of_list, Fits, WT, has_ty}
 pub use base.Logic.{SProp, id⊢}
 pub use base.Fml.{Lft, GName, Share, Fml, fat, froom, flft}
 pub use prog.Routine.{Env as Env'}
+pub use prog.Wired.{Wired}
 pub use prog.Wp.{Heap, Env, Calls, Loops, spot_of}
 pub use ghost.Atoms.{Atoms}
 pub use types.Kit.{Item, ‵, raw, ◌⊛◌, nth, put, Goal, Soaks, Post, prop, runs, lands, at_ret, Seq, Sq, Step, step, ◌$◌, !, move, keep, drop, rewrite, use1, split, fsplit, fsplit3, fjoin, fjoin3, feq_i}
