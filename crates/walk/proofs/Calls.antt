@@ -1,7 +1,7 @@
 -- A call in a walk by hand, the same for every callee whose contract says a fact, and whose result is plain data.
---     Callee       a function that is called: its key, what the key means, its contract and its theorem
+--     Callee       a function that is called: its key, the code that its theorem asks of the environment, its contract and its theorem. The call is read over the run's own environment, where that has the code
 --     Called       what is chosen for the call: the callee's lifetimes with the shares of their tokens, its arguments and their machine values
---     calls        the context begins with the callee's tokens and what its parameters own (`From`). Once it has returned, its tokens are there again, with an entry that says the last value of each `&mut` (`lefts`), and the fact is known of the result
+--     calls        the context begins with the callee's tokens and what its parameters own (`From`). Once it has returned, its tokens are there again, with an entry that says the last value of each `&mut` and holds its borrow (`lefts`), and the fact is known of the result
 --     answers      the same of a contract that says which one answer r₀ there is
 -- Assumes `Logic`.
 use mathlib.Core.Path.{◌≡◌, sym, subst, ap}

@@ -1,7 +1,7 @@
 -- A `&κ mut [T]` that is lent as a `&κ' [T]` for a lifetime κ' of one call, and comes back as it was. It says nothing of the crate.
 --     Lent             what the holder keeps meanwhile: what it lent for κ', and its own borrow at κ, open, with both halves of its ghost variable
---     lends_shared     own (the `&κ mut [T]` ((b, o), γ, ys)) ∗ [κ]_q  ⊢ ⇛ ∃ γ'. own (the `&κ' [T]` ((b, o), γ', ys)) ∗ Lent
---     lend, unlend     the two as steps of a walk, with the lifetime made and ended
+--     lends_shared     own (the `&κ mut [T]` ((b, o), γ, ys)) ∗ [κ]_q ∗ ts  ⊢ ⇛ (own (the `&κ' [T]` ((b, o), ys)) ∗ Lent ∗ ts)        the elements are shared out at once, by T's law (`Denote/Shares.antt`), with tokens ts within κ'
+--     lend, unlend     the two as steps of a walk, with the lifetime made and ended. The new lifetime's token serves for ts, so T's law is asked at that lifetime: every T that can be copied has it (`Denote/Copied.antt`'s `shares`)
 --     comes_back       [†κ'] ∗ Lent  ⊢ ⇛ (own (the `&κ mut [T]` ((b, o), γ, ys)) ∗ [κ]_q)
 -- Assumes `Logic`.
 use mathlib.Core.Path.{refl}
