@@ -1,3 +1,3 @@
-// The walk of a function's MIR by hand, for the functions that the borrow checker's part does not cover: those that are lent a struct or a slice of structs.
+// The walk of a function's MIR by hand, where no generated proof serves: of a function that takes plain data, and that is lent structs or slices of structs.
 // There is no function here: proofs/ has what every such walk shares, and says nothing of any crate.
 #![tactic(auto)]
