@@ -1,6 +1,7 @@
 // Bytes and blocks: copying a block, and adding one to a sum.
 // Assumes nothing.
 #![tactic(auto)]
+
 pub use parts::carry;
 
 mod parts;

@@ -1,6 +1,7 @@
 // The array's shape: its numbers by value, their limits, placement both ways, and where blocks stand.
 // Assumes nothing.
 #![tactic(auto)]
+
 pub use limits::{LEVEL_4, LEVEL_5, NO_FILL, NO_STRIPE, NONE, legal};
 pub use placement::{card_at, missing_at};
 
