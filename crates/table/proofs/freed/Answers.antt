@@ -7,7 +7,6 @@ use mathlib.Core.List.{List}
 use native.Mathlib.Omega.{arith}
 use borrow.Author.Rules.{rules}
 use lib.ListN.{set}
-use Rattle.record.specs.Life.{free}
 use Rattle.record.specs.declared.Record.{Record}
 use Rattle.table.proofs.Cleared.{cleared, cleared_zero, cleared_set, cleared_end}
 use Rattle.table.proofs.freed.Goals as goal
