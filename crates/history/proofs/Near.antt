@@ -13,7 +13,7 @@ use Rattle.stripe.specs.Request.{Request}
 
 -- a degraded read misses one of its units
 pub two_below : (n x : ℕ) (q : Request) → Proper n x q → q.graph ≡ 2 → q.missed ≤ n
-two_below n x q p e = go (chosen_graph n q.mask q.missed q.write q.graph p.right_graph_law) e
+two_below n x q p e = go (chosen_graph n q.mask q.missed q.write q.graph p.right_graph) e
   where
     go : {w : Bool} {g : ℕ} → Chosen n q.mask q.missed w g → g ≡ 2 → q.missed ≤ n
     go (degraded_read m) f = omega (arith, masked_below n q.mask q.missed m)

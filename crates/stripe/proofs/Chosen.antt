@@ -57,4 +57,4 @@ module _ (n mask x : ℕ) where
 
 -- the row that chose a request's graph
 pub row_of : (n x : ℕ) (q : Request) → Proper n x q → Chosen n q.mask q.missed q.write q.graph
-row_of n x q P = chosen_graph n q.mask q.missed q.write q.graph P.right_graph_law
+row_of n x q P = chosen_graph n q.mask q.missed q.write q.graph P.right_graph

@@ -34,7 +34,7 @@ begun_proper n x write mask h l =
     record {
       some_unit = h;
       units_only = l;
-      right_graph_law = refl;
+      right_graph = refl;
       known_card = inr refl;
       in_order = closed_none n (choose n write mask x) mask x;
       first_choice = λ i. sym (tally_none (step_numbers n) (λ k. bit k 0) (λ k j. bit_none k));
@@ -47,7 +47,7 @@ failed_proper n x y q P h =
     record {
       some_unit = P.some_unit;
       units_only = P.units_only;
-      right_graph_law = P.right_graph_law;
+      right_graph = P.right_graph;
       known_card = inl (none P.known_card);
       in_order = P.in_order;
       first_choice = P.first_choice;
@@ -100,7 +100,7 @@ module _ (n x : ℕ) (q : Request) (P : Proper n x q) where
       record {
         some_unit = P.some_unit;
         units_only = P.units_only;
-        right_graph_law = P.right_graph_law;
+        right_graph = P.right_graph;
         known_card = P.known_card;
         in_order = closed_after n q.graph q.mask q.missed q.done k P.in_order e;
         first_choice = λ h. omega (arith, P.first_choice h, more);
@@ -169,7 +169,7 @@ module _ (n x : ℕ) (q : Request) (P : Proper n x q) (l : x ≤ n) where
       record {
         some_unit = P.some_unit;
         units_only = P.units_only;
-        right_graph_law = refl;
+        right_graph = refl;
         known_card = inr refl;
         in_order = closed_none n (choose n q.write q.mask x) q.mask x;
         first_choice = λ h. absurd (omega arith);

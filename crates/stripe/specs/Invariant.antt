@@ -32,7 +32,7 @@ is_done n q s = bit (number_of n s) q.done
 pub record Proper (n x : ℕ) (q : Request) : Type 0 where
   pub some_unit : ¬ (q.mask ≡ 0)
   pub units_only : q.mask < 2 ^ n
-  pub right_graph_law : q.graph ≡ choose n q.write q.mask q.missed
+  pub right_graph : q.graph ≡ choose n q.write q.mask q.missed
   pub known_card : (n < q.missed) ⊎ (q.missed ≡ x)
   pub in_order : closed n q.graph q.mask q.missed q.done ≡ true
   pub first_choice : n < q.missed → q.count ≡ steps_done n q
