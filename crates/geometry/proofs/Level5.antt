@@ -1,4 +1,4 @@
--- Layout 5, the left_symmetric one, is a placement: in each stripe positions and cards are in bijection, and the last position is the parity card's. And
+-- Layout 5, the left-symmetric one, is a placement: in each stripe positions and cards are in bijection, and the last position is the parity card's. And
 -- it deals the blocks to the cards in turn: block L is on card L mod N.
 -- Assumes nothing.
 use Prim.Native.Nat.{ℕ, zero, ◌+◌, ◌-◌, ◌*◌, ◌/◌, ◌%◌, ◌≤◌, ◌<◌}

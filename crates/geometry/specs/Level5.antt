@@ -1,4 +1,4 @@
--- Document 01, "Placement": layout 5, the left_symmetric layout of RAID level 5.
+-- Document 01, "Placement": layout 5, the left-symmetric layout of RAID level 5.
 -- Assumes nothing.
 use Rattle.std.specs.Prelude.{ℕ, ◌+◌, ◌-◌, ◌%◌}
 

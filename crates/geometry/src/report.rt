@@ -49,7 +49,8 @@ impl State {
         if card != self.out {
             return 0;
         }
-        if self.fill == NO_FILL {
+        let whole = self.fill == NO_FILL;
+        if whole {
             return 12;
         }
         0

@@ -153,7 +153,8 @@ impl Survey {
             return self.seen_free(i, r);
         }
         let right = so_far(self.sound, state, r);
-        if r.phase == 1 {
+        let open = r.phase == 1;
+        if open {
             return self.seen_open(right, r.stripe, i as usize);
         }
         Survey {

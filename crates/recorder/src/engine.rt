@@ -1,4 +1,4 @@
-// The whole engine for C programs: the state and the table are lent as structs of C's layout, and each slice as a pointer and a length.
+// The whole engine for C programs: the state and the table are lent as structs of C's layout; `recorder_c` takes each slice as a pointer and a length.
 // Assumes nothing.
 ghost use Rattle.std.specs.Prelude.{not, ◌≡◌, eqb};
 ghost use Rattle.terms.specs.Reply.{on_accept};

@@ -1,5 +1,5 @@
-// The functions that a C program calls: each answers one number, packed as docs/C-INTERFACE.md says, and no number traps. Here placement and
-// the scan of an array with nothing open, by numbers and bytes; the whole engine is in `engine`.
+// What the functions do that a C program calls, and that `recorder_c` exports under these names: each answers one number, packed as
+// docs/C-INTERFACE.md says, and no number traps. Here placement and the scan of an array with nothing open, by numbers and bytes; the whole engine is in `engine`.
 // Assumes nothing.
 #![tactic(auto)]
 

@@ -24,7 +24,8 @@ pub fn read_input(text: &[u8]) -> Asked
         return Asked::Bad;
     }
     let end = n - 1;
-    if text[end] != b'\n' {
+    let ended = text[end] == b'\n';
+    if !ended {
         return Asked::Bad;
     }
     let cards = read_number(&text[..1]);

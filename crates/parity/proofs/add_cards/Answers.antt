@@ -13,8 +13,11 @@ use Rattle.parity.proofs.add_cards.Goals as goal
 
 pub add_eight-requires : goal.add_eight-requires
 add_eight-requires c =
+    -- the blocks of all cards
     let blocks : ℕ → List ℕ = cell_or_none c.args.cards c.args.stripes c.args.size c.args.image.now c.args.stripe in
+    -- each has size bytes
     let long : (k : ℕ) → length (blocks k) ≡ c.args.size = length_card c.args.cards c.args.stripes c.args.size c.args.image.now c.args.stripe c.requires.0 c.requires.1 in
+    -- from the sixth on they are zeros where there are five cards at most
     let none : c.args.cards ≤ 5 → (k : ℕ) → 5 ≤ k → blocks k ≡ zeros c.args.size = (λ few k l. card_none c.args.cards c.args.stripes c.args.size c.args.image.now c.args.stripe k (omega arith)) in (
       omega (arith, c.add_eight-arg-1.given.0.1, c.requires.0.block),
       record {

@@ -20,6 +20,7 @@ use Rattle.parity.proofs.add_eight.Goals.{then-more, else-more}
 
 pub loop-i-init : goal.loop-i-init
 loop-i-init c =
+    -- the blocks that are lent
     let blocks : ℕ → List ℕ = eight c.args.a.now c.args.b.now c.args.c.now c.args.d.now c.args.e.now c.args.f.now c.args.g.now c.args.h.now in
     let sum = c.args.sum.now in
     (search rules, filled_none (byte_of 8 blocks sum) sum, refl, sym (zeros_none (summed 8 blocks sum)))
@@ -27,6 +28,7 @@ loop-i-init c =
 pub loop-i-preserved : goal.loop-i-preserved
 loop-i-preserved c =
     let blocks : ℕ → List ℕ = eight c.args.a.now c.args.b.now c.args.c.now c.args.d.now c.args.e.now c.args.f.now c.args.g.now c.args.h.now in
+    -- their bytes at i, added to x
     let added_at : ℕ → ℕ → ℕ = nine c.args.a.now c.args.b.now c.args.c.now c.args.d.now c.args.e.now c.args.f.now c.args.g.now c.args.h.now in
     let join = c.if-more in
     let at = c.loop-i in

@@ -33,6 +33,7 @@ loop-byte-preserved c = (search rules, below_more _ _ c.loop-byte.invariant.1 c.
 
 pub scan-preserved : goal.scan-preserved
 scan-preserved c =
+    -- at the function's arguments
     let at_start : Looking = looking c.args.cards c.args.stripes c.args.size c.args.image.now c.args.skip in
     let at = c.scan in
     let inside = c.scan-test.true in

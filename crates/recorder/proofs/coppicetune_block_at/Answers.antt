@@ -14,7 +14,9 @@ use Rattle.recorder.proofs.coppicetune_block_at.Goals as goal
 pub pack-requires : goal.pack-requires
 unfolding held_reply
 pack-requires c =
+    -- the answer, whichever it is, replies what placement replies
     let reply : (r : Held) → c.block_at-held.result ≡ r → let a = c.args in held_reply r ≡ block_at_reply a.cards a.stripes a.layout a.card a.stripe = (λ r e. let a = c.args in sym (ap held_reply e) ∙ c.block_at-held.ensures ∙ ap (λ (g : Geometry). block_at_reply g.cards g.stripes g.layout a.card a.stripe) c.places.ensures) in
+    -- at a block, the values are 0 and its number
     let block : let a = c.args in accepted 0 c.in-Block.number ≡ block_at_reply a.cards a.stripes a.layout a.card a.stripe = reply (Block _) c.in-Block.is in
     let a = c.args in
     let small = held_small a.cards a.stripes a.layout a.card a.stripe _ (sym block) in

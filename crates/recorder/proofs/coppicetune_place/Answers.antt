@@ -14,7 +14,9 @@ use Rattle.recorder.proofs.coppicetune_place.Goals as goal
 pub pack-requires : goal.pack-requires
 unfolding placed_reply
 pack-requires c =
+    -- the answer, whichever it is, replies what placement replies
     let reply : (r : Placed) → c.place-placed.result ≡ r → let a = c.args in placed_reply r ≡ place_reply a.cards a.stripes a.layout a.block = (λ r e. let a = c.args in sym (ap placed_reply e) ∙ c.place-placed.ensures ∙ ap (λ (g : Geometry). place_reply g.cards g.stripes g.layout a.block) c.places.ensures) in
+    -- at a place, the values are its card and its stripe
     let at : let a = c.args in accepted c.in-At.card c.in-At.stripe ≡ place_reply a.cards a.stripes a.layout a.block = reply (At _ _) c.in-At.is in
     let a = c.args in
     let small = placed_small a.cards a.stripes a.layout a.block _ _ (sym at) in

@@ -8,6 +8,7 @@ use Rattle.recorder.proofs.coppicetune_scan.Goals as goal
 
 pub scanned-requires : goal.scanned-requires
 scanned-requires c =
+    -- the state that the eight numbers are
     let state_of : State = let a = c.args in record { cards = a.cards; stripes = a.stripes; block = a.block; records = a.records; layout = a.layout; out = a.out; lost = a.lost; fill = a.fill } in
     rw c.idle_scan.ensures.0 (idle_room state_of c.args.image.now)
 

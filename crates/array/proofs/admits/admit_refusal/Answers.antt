@@ -25,6 +25,7 @@ returns-then-beyond c = beyond_refuses _ _ _ _ (sym c.beyond.ensures ∙ c.if-be
 
 pub lent_wrong-wrong-requires : goal.lent_wrong-wrong-requires
 lent_wrong-wrong-requires c =
+    -- the limits hold
     let inside : beyond_state c.args.state ≡ false = sym c.beyond.ensures ∙ c.if-beyond.false in
     legal_state_law c.args.state inside
 
@@ -36,6 +37,7 @@ lent_refusal-first-requires c =
 pub returns-then-first-ne0 : goal.returns-then-first-ne0
 unfolding admit_refusal
 returns-then-first-ne0 c =
+    -- rows 1 to 4; where none of them refuses the call's own are left
     let lent : let a = c.args in c.lent_refusal-first.result ≡ first_row (lent_rows a.state (image_wrong a.state a.image.now || table_wrong a.state a.survey.len || work_wrong a.state a.work.now) a.survey.sound) = let a = c.args in c.lent_refusal-first.ensures ∙ ap (λ (w : Bool). first_row (lent_rows a.state w a.survey.sound)) c.lent_wrong-wrong.ensures in
     lent_refuses _ _ _ _ lent _ c.if-first-ne0.true
 
@@ -56,6 +58,7 @@ unfolding admit_rows first_row admit_refusal
 returns-then-not-legal_mask c =
     let lent : let a = c.args in c.lent_refusal-first.result ≡ first_row (lent_rows a.state (image_wrong a.state a.image.now || table_wrong a.state a.survey.len || work_wrong a.state a.work.now) a.survey.sound) = let a = c.args in c.lent_refusal-first.ensures ∙ ap (λ (w : Bool). first_row (lent_rows a.state w a.survey.sound)) c.lent_wrong-wrong.ensures in
     let own : let a = c.args in admit_refusal a.state a.survey a.work.now a.image.now a.write a.stripe a.mask a.payload.now ≡ first_row (admit_rows a.state a.survey a.write a.stripe a.mask a.payload.now) = lent_passes _ _ _ _ lent c.if-first-ne0.false _ in
+    -- what each passed test of its own tells
     let in_range : let a = c.args in leb a.state.stripes a.stripe ≡ false = lt-leb _ _ c.if-state-stripe.false in
     sym (own ∙ rw (in_range, fails c.legal_mask.ensures c.if-not-legal_mask.true-raw))
 

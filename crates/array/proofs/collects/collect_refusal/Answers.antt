@@ -22,6 +22,7 @@ returns-then-beyond c = beyond_refuses _ _ _ _ (sym c.beyond.ensures ∙ c.if-be
 
 pub stores_wrong-wrong-requires : goal.stores_wrong-wrong-requires
 stores_wrong-wrong-requires c =
+    -- the limits hold
     let inside : beyond_state c.args.state ≡ false = sym c.beyond.ensures ∙ c.if-beyond.false in
     legal_state_law c.args.state inside
 
@@ -35,6 +36,7 @@ unfolding collect_refusal sound_with
 returns-then-first-ne0 c =
     let inside : beyond_state c.args.state ≡ false = sym c.beyond.ensures ∙ c.if-beyond.false in
     let sound : let a = c.args in c.sound_with-sound.result ≡ sound_with a.state a.survey a.r = let a = c.args in c.sound_with-sound.ensures ∙ ap (λ (b : Bool). a.survey.sound && b && not (is_open a.r && held_in a.survey a.r.stripe)) (c.is_sound.ensures ∙ sound_within a.state a.r inside) in
+    -- rows 1 to 4; where none of them refuses the call's own are left
     let lent : let a = c.args in c.lent_refusal-first.result ≡ first_row (lent_rows a.state (table_wrong a.state a.survey.len || work_wrong a.state a.work.now) (sound_with a.state a.survey a.r)) = let a = c.args in c.lent_refusal-first.ensures ∙ ap₂ (λ (w s : Bool). first_row (lent_rows a.state w s)) c.stores_wrong-wrong.ensures sound in
     lent_refuses _ _ _ _ lent _ c.if-first-ne0.true
 

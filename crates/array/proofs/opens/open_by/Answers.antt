@@ -26,6 +26,7 @@ lent_wrong-requires c = legal_state_law c.opened-state.result (sym c.beyond.ensu
 
 pub returns-then-lent_wrong : goal.returns-then-lent_wrong
 returns-then-lent_wrong c =
+    -- what each passed test tells
     let inside : let a = c.args in beyond_state (opened a.«geometry» a.out) ≡ false = ap beyond_state (sym c.opened-state.ensures) ∙ sym c.beyond.ensures ∙ c.if-beyond.false in
     let wrong : State → Bool = (λ st. image_wrong st c.args.image.now || table_wrong st c.args.len || work_wrong st c.args.work.now) in
     let lengths : let a = c.args in c.lent_wrong.result ≡ wrong (opened a.«geometry» a.out) = c.lent_wrong.ensures ∙ ap wrong c.opened-state.ensures in
@@ -49,6 +50,7 @@ returns-in-Right c =
     let wrong : State → Bool = (λ st. image_wrong st c.args.image.now || table_wrong st c.args.len || work_wrong st c.args.work.now) in
     let lengths : let a = c.args in c.lent_wrong.result ≡ wrong (opened a.«geometry» a.out) = c.lent_wrong.ensures ∙ ap wrong c.opened-state.ensures in
     let right : let a = c.args in wrong (opened a.«geometry» a.out) ≡ false = sym lengths ∙ c.if-lent_wrong.false in
+    -- what the look at all stripes says of parity
     let says : let a = c.args in reply c.scan_but.result ≡ idle_scan_reply (opened a.«geometry» a.out) a.image.now = let a = c.args in c.scan_but.ensures.0 ∙ ap (λ (s : State). look_reply s a.image.now (among (replicate 8 1024))) c.opened-state.ensures ∙ scanned a.«geometry» a.out a.len a.work.now a.image.now inside right c.if-out-ne-NONE.false in
     let a = c.args in
     opening_accepted a.«geometry» a.out a.len a.work.now a.image.now

@@ -19,6 +19,7 @@ returns-then-beyond c = beyond_refuses _ _ _ _ (sym c.beyond.ensures ∙ c.if-be
 
 pub seen_wrong-wrong-requires : goal.seen_wrong-wrong-requires
 seen_wrong-wrong-requires c =
+    -- the limits hold
     let inside : beyond_state c.args.state ≡ false = sym c.beyond.ensures ∙ c.if-beyond.false in
     legal_state_law c.args.state inside
 
@@ -30,6 +31,7 @@ lent_refusal-first-requires c =
 pub returns-then-first-ne0 : goal.returns-then-first-ne0
 unfolding rebuild_refusal
 returns-then-first-ne0 c =
+    -- rows 1 to 4; where none of them refuses the call's own are left
     let lent : let a = c.args in c.lent_refusal-first.result ≡ first_row (lent_rows a.state (image_wrong a.state a.image.now || table_wrong a.state a.survey.len) a.survey.sound) = let a = c.args in c.lent_refusal-first.ensures ∙ ap (λ (w : Bool). first_row (lent_rows a.state w a.survey.sound)) c.seen_wrong-wrong.ensures in
     lent_refuses _ _ _ _ lent _ c.if-first-ne0.true
 

@@ -17,6 +17,7 @@ returns-then-beyond c = let a = c.args in scan_beyond a.state a.survey a.image.n
 
 pub seen_wrong-wrong-requires : goal.seen_wrong-wrong-requires
 seen_wrong-wrong-requires c =
+    -- the limits hold
     let inside : beyond_state c.args.state ≡ false = sym c.beyond.ensures ∙ c.if-beyond.false in
     legal_state_law c.args.state inside
 
@@ -27,6 +28,7 @@ lent_refusal-first-requires c =
 
 pub returns-then-first-ne0 : goal.returns-then-first-ne0
 returns-then-first-ne0 c =
+    -- rows 1 to 4
     let lent : let a = c.args in c.lent_refusal-first.result ≡ first_row (lent_rows a.state (image_wrong a.state a.image.now || table_wrong a.state a.survey.len) a.survey.sound) = let a = c.args in c.lent_refusal-first.ensures ∙ ap (λ (w : Bool). first_row (lent_rows a.state w a.survey.sound)) c.seen_wrong-wrong.ensures in
     let a = c.args in scan_first a.state a.survey a.image.now _ lent c.if-first-ne0.true
 

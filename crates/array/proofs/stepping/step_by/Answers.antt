@@ -16,6 +16,7 @@ use Rattle.array.proofs.stepping.step_by.Goals as goal
 
 pub step_refusal-number-requires : goal.step_refusal-number-requires
 step_refusal-number-requires c =
+    -- what step k does
     let action : let a = c.args in action_step c.step_of-action.result ≡ step_of (units_of a.state) a.k = c.step_of-action.ensures ∙ ap (λ (n : ℕ). step_of n c.args.k) c.units.ensures in
     (c.look-look.ensures, action)
 
@@ -27,7 +28,9 @@ returns-then-number-ne0 c =
 pub returns-then-meets_out : goal.returns-then-meets_out
 returns-then-meets_out c =
     let action : let a = c.args in action_step c.step_of-action.result ≡ step_of (units_of a.state) a.k = c.step_of-action.ensures ∙ ap (λ (n : ℕ). step_of n c.args.k) c.units.ensures in
+    -- nothing is refused
     let accepted : let a = c.args in Stepped a.state a.survey a.r a.work.now a.image.now a.i a.k c.look-look.result = let a = c.args in step_accepted a.state a.survey a.r a.work.now a.image.now a.i a.k _ c.look-look.ensures (sym c.step_refusal-number.ensures ∙ c.if-number-ne0.false) in
+    -- whether the step's card is out
     let meets : (b : Bool) → let a = c.args in c.meets_out.result ≡ b → meets_out (missing_in a.state a.r.stripe) (action_step c.step_of-action.result) ≡ b = (λ b q. let k = accepted in ap (λ (x : ℕ). meets_out x (action_step c.step_of-action.result)) (sym k.out_is) ∙ sym c.meets_out.ensures ∙ q) in
     let a = c.args in
     stepping_afresh a.state a.survey a.r a.work.now a.image.now a.i a.k

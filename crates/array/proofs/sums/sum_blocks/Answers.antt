@@ -36,6 +36,7 @@ write_at-new-requires c =
 pub add_taken-requires : goal.add_taken-requires
 add_taken-requires c =
     let bounds : BoundsOf c.args.state = legal_bounds _ _ _ _ c.requires.0 in
+    -- where the record's blocks start
     let read_is : let a = c.args in c.read_at-read.result ≡ read_at a.state.cards a.state.block a.«record» 0 = c.read_at-read.ensures in
     let a = c.args in
     let N = a.state.cards in

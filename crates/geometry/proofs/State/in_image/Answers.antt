@@ -1,4 +1,4 @@
--- `geometry::State::in_image_law` meets its contract: the tests that were passed, and the one that failed, say what the conjunction is.
+-- `geometry::State::in_image` meets its contract: the tests that were passed, and the one that failed, say what the conjunction is.
 -- Assumes nothing.
 use borrow.Author.Tests.{lt-ltb, le-ltb}
 use Rattle.geometry.specs.Store.{in_image}

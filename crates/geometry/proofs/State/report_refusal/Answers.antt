@@ -14,6 +14,7 @@ returns-then-first-ne0 c = state_refuses _ _ _ c.refusal-first.ensures c.if-firs
 pub returns-then-self-card : goal.returns-then-self-card
 unfolding report_rows first_row report_refusal
 returns-then-self-card c =
+    -- rows 1 and 4 are passed over
     let own : let a = c.args in report_refusal a.self a.card ≡ first_row (report_rows a.self a.card) = state_passes _ _ _ c.refusal-first.ensures c.if-first-ne0.false in
     sym (own ∙ rw (le-leb _ _ c.if-self-card.true))
 
@@ -23,14 +24,14 @@ returns-then-card-self c =
     let own : let a = c.args in report_refusal a.self a.card ≡ first_row (report_rows a.self a.card) = state_passes _ _ _ c.refusal-first.ensures c.if-first-ne0.false in
     sym (own ∙ rw (lt-leb _ _ c.if-self-card.false, ne_eqb _ _ c.if-card-self.true))
 
-pub returns-then-self-eq-NO_FILL : goal.returns-then-self-eq-NO_FILL
+pub returns-then-whole : goal.returns-then-whole
 unfolding report_rows first_row report_refusal
-returns-then-self-eq-NO_FILL c =
+returns-then-whole c =
     let own : let a = c.args in report_refusal a.self a.card ≡ first_row (report_rows a.self a.card) = state_passes _ _ _ c.refusal-first.ensures c.if-first-ne0.false in
-    sym (own ∙ rw (lt-leb _ _ c.if-self-card.false, eq-eqb _ _ c.if-card-self.false, eq-eqb _ _ c.if-self-eq-NO_FILL.true))
+    sym (own ∙ rw (lt-leb _ _ c.if-self-card.false, eq-eqb _ _ c.if-card-self.false, eq-eqb _ _ c.if-whole.true))
 
 pub returns : goal.returns
 unfolding report_rows first_row report_refusal
 returns c =
     let own : let a = c.args in report_refusal a.self a.card ≡ first_row (report_rows a.self a.card) = state_passes _ _ _ c.refusal-first.ensures c.if-first-ne0.false in
-    sym (own ∙ rw (lt-leb _ _ c.if-self-card.false, eq-eqb _ _ c.if-card-self.false, ne_eqb _ _ c.if-self-eq-NO_FILL.false))
+    sym (own ∙ rw (lt-leb _ _ c.if-self-card.false, eq-eqb _ _ c.if-card-self.false, ne_eqb _ _ c.if-whole.false))

@@ -14,6 +14,7 @@ returns-then-first-ne0 c = state_refuses _ _ _ c.refusal-first.ensures c.if-firs
 pub returns-then-self-eq-NONE : goal.returns-then-self-eq-NONE
 unfolding start_rows first_row start_refusal
 returns-then-self-eq-NONE c =
+    -- rows 1 and 4 are passed over
     let own : let st = c.args.self in start_refusal st ≡ first_row (start_rows st) = state_passes _ _ _ c.refusal-first.ensures c.if-first-ne0.false in
     sym (own ∙ rw (eq-eqb _ _ c.if-self-eq-NONE.true))
 

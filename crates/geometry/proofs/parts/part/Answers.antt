@@ -20,6 +20,7 @@ returns-then-s-whole c =
 
 pub overflow_add-end : goal.overflow_add-end
 overflow_add-end c =
+    -- past both tests the part ends within s
     let within : let a = c.args in a.at + a.size ≤ length a.s.now = let l = c.requires c.if-not-there.false in let e = c.if-s-whole.false in omega (arith, e) in
     search rules
 

@@ -29,6 +29,7 @@ join-steps-requires c =
 
 pub in_order-requires : goal.in_order-requires
 in_order-requires c =
+    -- what is joined is the set of steps
     let steps_is : let a = c.args in c.join-steps.result ≡ step_set a.n a.g a.mask a.x = let a = c.args in c.join-steps.ensures ∙ ap₂ (λ (r w : ℕ). w * 2 ^ (a.n + 2) + (r + cond (sums a.g) (2 ^ (a.n + 1)) 0)) c.read_set-reads.ensures c.write_set.ensures ∙ steps_are a.n a.g a.mask a.x in
     (c.if-n-gt7.false, c.read_set-reads.ensures, steps_is)
 

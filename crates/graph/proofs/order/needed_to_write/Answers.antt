@@ -19,6 +19,7 @@ returns-then-p-n-2 c =
 pub returns-then-g-eq3 : goal.returns-then-g-eq3
 unfolding needed_by
 returns-then-g-eq3 c =
+    -- a unit's write
     let below : c.args.p < c.args.n = omega (arith, c.if-p-n.false, c.if-p-n-2.false) in
     let a = c.args in
     rw (ne_eqb a.p a.n c.if-p-n.false, lt-ltb a.p a.n below, eq-eqb a.g 3 c.if-g-eq3.true) c.only-then-g-eq3.ensures

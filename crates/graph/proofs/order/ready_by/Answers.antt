@@ -20,6 +20,7 @@ returns-then-not-has c =
 pub returns-then-has : goal.returns-then-has
 unfolding ready_by
 returns-then-has c =
+    -- past the first test, the step is in the graph
     let in_graph : let a = c.args in bit a.k a.whole ≡ true = sym c.has.ensures ∙ not-false c.has.result c.if-not-has.false-raw in
     rw (few c.args.n c.if-n-gt7.false, in_graph, sym c.has-2.ensures ∙ c.if-has.true)
 

@@ -16,6 +16,7 @@ use Rattle.parity.proofs.rest.add_others.Goals as goal
 
 pub loop-k-init : goal.loop-k-init
 loop-k-init c =
+    -- the limits hold, and the card and the stripe are the array's
     let inside : Inside c.args.state c.args.but c.args.state.cards c.args.stripe c.args.state.stripes = in_image_law c.args.state c.args.but c.args.stripe c.requires.0 in
     (omega (arith, inside.bounds.cards_low), sym (summed_none _ _))
 
@@ -33,6 +34,7 @@ other-b-requires c = (c.requires.0, c.requires.1, omega (arith, c.loop-k-test.tr
 pub add_two-requires : goal.add_two-requires
 add_two-requires c =
     let inside : Inside c.args.state c.args.but c.args.state.cards c.args.stripe c.args.state.stripes = in_image_law c.args.state c.args.but c.args.stripe c.requires.0 in
+    -- so that a card's block has B bytes
     let long : (d : ℕ) → d < c.args.state.cards → length (cell c.args.state.stripes c.args.state.block c.args.image.now c.args.stripe d) ≡ c.args.state.block = (λ d below. length_cell (fitting c.args.state c.args.image.now inside.bounds (whole_image c.args.state c.args.image.now inside.bounds c.requires.1)) c.args.stripe d inside.second below) in
     let k = c.loop-k.k in
     let below = c.loop-k-test.true in (

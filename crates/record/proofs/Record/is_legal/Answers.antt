@@ -27,6 +27,7 @@ returns-then-self-gt2 c =
 pub returns-then-self-gt1 : goal.returns-then-self-gt1
 unfolding legal_record within
 returns-then-self-gt1 c =
+    -- what the tests that are passed say of the record
     let busy : let r = c.args.self in (is_open r || is_finished r) ≡ true = let r = c.args.self in ⊎_elim (λ e. rw e) (λ e. let f = eqb-false r.phase 1 e in rw (e, eq-eqb r.phase 2 (omega arith))) (truth (eqb r.phase 1)) in
     let r = c.args.self in
     rw (busy, le-leb 0 r.write (search rules), lt-leb r.write 1 c.if-self-gt1.true)

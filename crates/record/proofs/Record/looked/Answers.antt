@@ -27,6 +27,7 @@ use Rattle.record.proofs.Record.looked.Goals as goal
 pub returns-then-n-gt7 : goal.returns-then-n-gt7
 unfolding sound_record_in
 returns-then-n-gt7 c =
+    -- the state that its numbers stand for
     let seen = seen_as c.args.cards c.args.stripes c.args.layout c.args.now in
     rw (many (units_of seen) (omega (arith, c.units_of-n.ensures, c.if-n-gt7.true))) c.nothing.ensures
 
@@ -34,7 +35,9 @@ pub returns-then-not-is_legal : goal.returns-then-not-is_legal
 unfolding sound_record_in sound_record legal_record
 returns-then-not-is_legal c =
     let seen = seen_as c.args.cards c.args.stripes c.args.layout c.args.now in
+    -- what the tests that are passed say of the record
     let few_at : few_in seen ≡ true = few (units_of seen) (omega (arith, c.units_of-n.ensures, c.if-n-gt7.false)) in
+    -- a test that is not passed says it too
     let not_legal : legal_record seen c.args.self ≡ false = fails c.is_legal.ensures c.if-not-is_legal.true-raw in
     rw (few_at, c.requires.0, not_legal) c.nothing-then-not-is_legal.ensures
 
@@ -73,6 +76,7 @@ returns-then-not-judged c =
     let known : legal_chosen seen c.args.self ≡ true = holds c.legal_chosen.ensures c.if-not-legal_chosen.false-raw in
     let graph_test : right_graph seen c.args.self ≡ eqb c.args.self.graph c.choose.result = ap (eqb c.args.self.graph) (sym (c.choose.ensures ∙ ap₂ (λ (n x : ℕ). choose n (eqb c.args.self.write 1) c.args.self.mask x) c.units_of-n.ensures c.requires.1)) in
     let right_graph_law : right_graph seen c.args.self ≡ true = graph_test ∙ eq-eqb c.args.self.graph c.choose.result c.if-self-choose.false in
+    -- the judgement of the done steps
     let judgement : let a = c.args in let n = units_of seen in let x = chosen_at seen a.self in ◌≡◌ {A = Judged} c.judge-judged.result (record { right = closed n a.self.graph a.self.mask x a.self.done; whole = complete n a.self.graph a.self.mask x a.self.done; steps = step_set n a.self.graph a.self.mask x; reads = set_of (n + 1) (reads n a.self.graph a.self.mask x) }) = let a = c.args in c.judge-judged.ensures ∙ ap₂ (λ (n x : ℕ). judged n a.self.graph a.self.mask x a.self.done) c.units_of-n.ensures c.requires.1 ∙ judged_few (units_of seen) a.self.graph a.self.mask (chosen_at seen a.self) a.self.done few_at in
     let steps_test : c.judge-judged.result.right ≡ right_steps seen c.args.self = ap (λ (j : Judged). j.right) judgement in
     rw (
@@ -99,6 +103,7 @@ returns-then-not-right_count c =
     let whole_test : c.judge-judged.result.whole ≡ lacks_none seen c.args.self = ap (λ (j : Judged). j.whole) judgement in
     let right_steps_law : right_steps seen c.args.self ≡ true = holds steps_test c.if-not-judged.false in
     let count_test : c.right_count.result ≡ right_count seen c.args.self = let a = c.args in c.right_count.ensures ∙ ap₂ (λ (n : ℕ) (w : Bool). cond (is_open a.self) (not w && leb a.self.count (2 * n + 2)) (w && leb a.self.count (2 * n + 3))) c.units_of-n.ensures whole_test ∙ sym (count_going seen a.self legal) in
+    -- all clauses but the last hold
     let all_but_count : sound_record_in seen c.args.self ≡ right_count seen c.args.self = rw (few_at, c.requires.0, legal, known, right_graph_law, right_steps_law) in
     rw (all_but_count, fails count_test c.if-not-right_count.true-raw) c.nothing-then-not-right_count.ensures
 

@@ -41,11 +41,11 @@ returns-then-r-eq0 c =
     (rw z))
 
 -- an open one
-pub returns-then-r-eq1 : goal.returns-then-r-eq1
+pub returns-then-open : goal.returns-then-open
 unfolding seen still_sound still_free fine
-returns-then-r-eq1 c =
+returns-then-open c =
     let a = c.args in
-    let o : is_open a.r ≡ true = eq-eqb a.r.phase 1 c.if-r-eq1.true in
+    let o : is_open a.r ≡ true = eq-eqb a.r.phase 1 c.if-open.true in
     let f : is_free a.r ≡ false = open_not_free a.r o in
     rw (lt-ltb a.i 8 (search rules))
     (c.seen_open.ensures
@@ -60,7 +60,7 @@ pub returns : goal.returns
 unfolding seen still_sound still_free fine
 returns c =
     let a = c.args in
-    let o : is_open a.r ≡ false = ne_eqb a.r.phase 1 c.if-r-eq1.false in
+    let o : is_open a.r ≡ false = ne_eqb a.r.phase 1 c.if-open.false in
     let f : is_free a.r ≡ false = ne_eqb a.r.phase 0 (search rules) in
     rw (lt-ltb a.i 8 (search rules))
     (same_survey _ _ refl

@@ -14,8 +14,8 @@ returns-then-n-lt4 c = sym (bad_short _ (search rules))
 pub returns-then-text-ne32 : goal.returns-then-text-ne32
 returns-then-text-ne32 c = sym (bad_space _ c.if-text-ne32.true)
 
-pub returns-then-text-end-ne10 : goal.returns-then-text-end-ne10
-returns-then-text-end-ne10 c = sym (bad_end _ c.if-text-end-ne10.true)
+pub returns-then-not-ended : goal.returns-then-not-ended
+returns-then-not-ended c = sym (bad_end _ c.if-not-ended.true)
 
 pub slice_bounds-read_number-end : goal.slice_bounds-read_number-end
 slice_bounds-read_number-end c = sym (length-take-le 1 c.args.text.now (omega arith))
@@ -24,4 +24,4 @@ pub returns-then-beyond : goal.returns-then-beyond
 returns-then-beyond c = sym (bad_limits _ _ _ c.read_number-cards.ensures c.read_number-stripes.ensures (sym c.beyond.ensures ∙ c.if-beyond.true))
 
 pub returns : goal.returns
-returns c = sym (good _ _ _ (omega arith) c.if-text-ne32.false c.if-text-end-ne10.false c.read_number-cards.ensures c.read_number-stripes.ensures (sym c.beyond.ensures ∙ c.if-beyond.false))
+returns c = sym (good _ _ _ (omega arith) c.if-text-ne32.false c.if-not-ended.false c.read_number-cards.ensures c.read_number-stripes.ensures (sym c.beyond.ensures ∙ c.if-beyond.false))

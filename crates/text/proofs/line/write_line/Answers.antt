@@ -22,6 +22,7 @@ returns-then-beyond c =
 
 pub returns-then-stripes-stripe : goal.returns-then-stripes-stripe
 returns-then-stripes-stripe c =
+    -- past the test of the limits they hold
     let legal : beyond_places c.args.cards c.args.stripes 5 ≡ false = sym c.beyond.ensures ∙ c.if-beyond.false in
     let w = nothing _ _ (written_range _ _ _ _ (search rules) legal (search rules)) in
     record { value = w.0; out_after = w.1 }
