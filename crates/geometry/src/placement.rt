@@ -7,6 +7,7 @@ ghost use Rattle.geometry.specs.Placement.{card_at, position_of, card_in, missin
 ghost use Rattle.geometry.specs.Answers.{places_of, beyond_places, placed_reply, place_reply, held_reply, block_at_reply};
 
 use crate::{Geometry, Held, LEVEL_4, NO_FILL, NONE, Placed, State};
+use terms::Refusal;
 
 // The card of a position of a stripe in layout 5. What is left of the turn is taken before the test, so that the compiler makes no branch of it.
 fn rotated_card(cards: u64, stripe: u64, position: u64) -> u64
@@ -100,16 +101,16 @@ impl State {
 
 // Where a block is, if n blocks make a stripe and the blocks are dealt to so many cards in turn: in stripe L div n, on card L mod that number. The
 // range is tested here, in each layout: behind one test for both the compiler joins their remainders, and layout 4 divides once more.
-fn dealt(units: u64, stripes: u64, cards: u64, block: u64) -> Placed
+fn dealt(units: u64, stripes: u64, cards: u64, block: u64) -> Result<Placed, Refusal>
     requires { (0 < units) × (0 < cards) × (units * stripes ≤ 7168) }
     ensures { placed_reply result ≡ cond (leb (units * stripes) block) (refused 5) (accepted (block % cards) (block / units)) }
 {
     if units * stripes <= block {
-        return Placed::OutOfRange;
+        return Err(Refusal::OutOfRange);
     }
     let card = block % cards;
     let stripe = block / units;
-    Placed::At { card, stripe }
+    Ok(Placed { card, stripe })
 }
 
 impl Geometry {
@@ -134,11 +135,11 @@ impl Geometry {
     }
 
     // The card and the stripe of a logical block: layout 4 deals the blocks to the first n cards, layout 5 to all N.
-    pub fn place(self, block: u64) -> Placed
+    pub fn place(self, block: u64) -> Result<Placed, Refusal>
         ensures { placed_reply result ≡ place_reply self.cards self.stripes self.layout block }
     {
         if self.beyond_places() {
-            return Placed::Beyond;
+            return Err(Refusal::BeyondLimits);
         }
         let cards = self.cards;
         let stripes = self.stripes;
@@ -151,27 +152,25 @@ impl Geometry {
     }
 
     // What a card holds in a stripe: a logical block's number, or parity.
-    pub fn block_at(self, card: u64, stripe: u64) -> Held
+    #[tactic(auto, unfolding(crate::specs::Answers::block_at_reply, crate::specs::Answers::block_at_refusal, terms::specs::Reply::first_row))]
+    pub fn block_at(self, card: u64, stripe: u64) -> Result<Held, Refusal>
         ensures { held_reply result ≡ block_at_reply self.cards self.stripes self.layout card stripe }
     {
         if self.beyond_places() {
-            return Held::Beyond;
+            return Err(Refusal::BeyondLimits);
         }
         let cards = self.cards;
         let stripes = self.stripes;
-        if cards <= card {
-            return Held::OutOfRange;
-        }
-        if stripes <= stripe {
-            return Held::OutOfRange;
+        if cards <= card || stripes <= stripe {
+            return Err(Refusal::OutOfRange);
         }
         let units = cards - 1;
         let position = position_of(cards, self.layout, stripe, card);
         if position == units {
-            return Held::Parity;
+            return Ok(Held::Parity);
         }
         let first = units * stripe;
         let number = first + position;
-        Held::Block(number)
+        Ok(Held::Block(number))
     }
 }

@@ -5,13 +5,12 @@ use mathlib.Core.Bool.{false}
 use mathlib.Core.Path.{◌≡◌, sym, ◌∙◌}
 use native.Mathlib.Nat.{le_refl}
 use native.Mathlib.Omega.{arith}
-use Rattle.geometry.specs.Answers.{beyond_places, placed_reply}
+use Rattle.geometry.specs.Answers.{beyond_places}
 use Rattle.geometry.proofs.Answered.{places_bounds, blocks_few, place_beyond, place_tested}
 use Rattle.geometry.proofs.Placing.{card_of_4, card_of_5}
 use Rattle.geometry.proofs.Geometry.place.Goals as goal
 
 pub returns-then-beyond_places : goal.returns-then-beyond_places
-unfolding placed_reply
 returns-then-beyond_places c = sym (place_beyond _ _ _ _ (sym c.beyond_places.ensures ∙ c.if-beyond_places.true))
 
 pub overflow_sub-units : goal.overflow_sub-units
