@@ -34,6 +34,7 @@ impl State {
     }
 
     // The state after the stripe at the fill place is filled: the next one comes, and after the last no card is out.
+    #[tactic(auto, unfolding(crate::specs::Fill::moved_on))]
     pub fn moved_on(mut self) -> State
         ensures { result ≡ moved_on self }
     {
