@@ -27,7 +27,7 @@ use Rattle.record.proofs.Same.{same_survey}
 use Rattle.record.specs.Asked.{few_in, no_stripe, held_stripe, sound_record_in}
 use Rattle.record.specs.Life.{free, is_free, is_open, units_of}
 use Rattle.record.specs.Seen.{looks_at_many, to_see, started, held_before, fine, still_sound, still_free, seen, seen_to}
-use Rattle.record.specs.Sound.{all_zero, sound_record, clash, apart, sound, holds, held, lowest_free}
+use Rattle.record.specs.Sound.{all_zero, sound_record, clash, apart, sound, holds, lowest_free}
 use Rattle.record.specs.Survey.{looks_at, unseen, survey_of}
 use Rattle.record.specs.declared.Record.{Record}
 use Rattle.record.specs.declared.Survey.{Survey}
