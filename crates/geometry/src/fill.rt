@@ -35,18 +35,16 @@ impl State {
 
     // The state after the stripe at the fill place is filled: the next one comes, and after the last no card is out.
     #[tactic(auto, unfolding(crate::specs::Fill::moved_on))]
-    pub fn moved_on(mut self) -> State
+    pub fn moved_on(self) -> State
         ensures { result ≡ moved_on self }
     {
-        if self.stripes > self.fill {
-            let next = self.fill + 1;
-            if next < self.stripes {
-                self.fill = next;
-                return self;
-            }
+        match self.fill.checked_add(1) {
+            Some(next) if next < self.stripes => State { fill: next, ..self },
+            _ => State {
+                fill: NO_FILL,
+                out: NONE,
+                ..self
+            },
         }
-        self.fill = NO_FILL;
-        self.out = NONE;
-        self
     }
 }

@@ -44,9 +44,10 @@ fn card_of(cards: u64, layout: u64, stripe: u64, position: u64) -> u64
     ensures { result ≡ card_at cards layout stripe position }
 {
     if layout == LEVEL_4 {
-        return position;
+        position
+    } else {
+        rotated_card(cards, stripe, position)
     }
-    rotated_card(cards, stripe, position)
 }
 
 // The position of a card in a stripe, by the layout.
@@ -56,9 +57,10 @@ fn position_of(cards: u64, layout: u64, stripe: u64, card: u64) -> u64
     ensures { result ≡ position_of cards layout stripe card }
 {
     if layout == LEVEL_4 {
-        return card;
+        card
+    } else {
+        rotated_position(cards, stripe, card)
     }
-    rotated_position(cards, stripe, card)
 }
 
 // The card of a position of a stripe, position n being parity; N where there is no such position.
@@ -66,10 +68,11 @@ fn position_of(cards: u64, layout: u64, stripe: u64, card: u64) -> u64
 pub fn card_at(cards: u64, layout: u64, stripe: u64, position: u64) -> u64
     ensures { result ≡ card_in cards layout stripe position }
 {
-    if cards <= position {
-        return cards;
+    if position < cards {
+        card_of(cards, layout, stripe, position)
+    } else {
+        cards
     }
-    card_of(cards, layout, stripe, position)
 }
 
 // The position of a card in a stripe; N where there is no such card.
@@ -77,10 +80,11 @@ pub fn card_at(cards: u64, layout: u64, stripe: u64, position: u64) -> u64
 pub fn missing_at(cards: u64, layout: u64, stripe: u64, card: u64) -> u64
     ensures { result ≡ missing_at cards layout stripe card }
 {
-    if cards <= card {
-        return cards;
+    if card < cards {
+        position_of(cards, layout, stripe, card)
+    } else {
+        cards
     }
-    position_of(cards, layout, stripe, card)
 }
 
 impl State {
@@ -115,9 +119,10 @@ fn dealt(units: u64, stripes: u64, cards: u64, block: u64) -> Result<Placed, Ref
     if units * stripes <= block {
         return Err(Refusal::OutOfRange);
     }
-    let card = block % cards;
-    let stripe = block / units;
-    Ok(Placed { card, stripe })
+    Ok(Placed {
+        card: block % cards,
+        stripe: block / units,
+    })
 }
 
 impl Geometry {
@@ -149,14 +154,18 @@ impl Geometry {
         if self.beyond_places() {
             return Err(Refusal::BeyondLimits);
         }
-        let cards = self.cards;
-        let stripes = self.stripes;
-        let layout = self.layout;
+        let Geometry {
+            cards,
+            stripes,
+            layout,
+            ..
+        } = self;
         let units = cards - 1;
         if layout == LEVEL_4 {
-            return dealt(units, stripes, units, block);
+            dealt(units, stripes, units, block)
+        } else {
+            dealt(units, stripes, cards, block)
         }
-        dealt(units, stripes, cards, block)
     }
 
     // What a card holds in a stripe: a logical block's number, or parity.
@@ -167,18 +176,15 @@ impl Geometry {
         if self.beyond_places() {
             return Err(Refusal::BeyondLimits);
         }
-        let cards = self.cards;
-        let stripes = self.stripes;
-        if cards <= card || stripes <= stripe {
+        if card >= self.cards || stripe >= self.stripes {
             return Err(Refusal::OutOfRange);
         }
-        let units = cards - 1;
-        let position = position_of(cards, self.layout, stripe, card);
+        let units = self.cards - 1;
+        let position = position_of(self.cards, self.layout, stripe, card);
         if position == units {
             return Ok(Held::Parity);
         }
-        let first = units * stripe;
-        let number = first + position;
+        let number = units * stripe + position;
         Ok(Held::Block(number))
     }
 }

@@ -31,10 +31,11 @@ impl State {
     pub fn image_size(self) -> usize
         ensures { result ≡ image_size_in self }
     {
-        if !legal(self.cards, self.stripes, self.block, self.records) {
-            return 0;
+        if legal(self.cards, self.stripes, self.block, self.records) {
+            (self.cards * self.stripes * self.block) as usize
+        } else {
+            0
         }
-        (self.cards * self.stripes * self.block) as usize
     }
 
     // Where the block of a card and a stripe starts in the image.
@@ -42,9 +43,10 @@ impl State {
     pub fn cell_at(self, card: u64, stripe: u64) -> usize
         ensures { result ≡ cell_in self card stripe }
     {
-        if !self.in_image(card, stripe) {
-            return 0;
+        if self.in_image(card, stripe) {
+            offset(card, self.stripes, stripe, self.block)
+        } else {
+            0
         }
-        offset(card, self.stripes, stripe, self.block)
     }
 }
