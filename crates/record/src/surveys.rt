@@ -40,12 +40,17 @@ impl Survey {
     }
 
     // One of the first i records holds the stripe.
-    #[tactic(auto, using(crate::proofs::HeldBefore::held_take))]
+    #[tactic(auto, using(crate::proofs::HeldBefore::held_take, crate::proofs::HeldBefore::held_one, std::proofs::lemmas::List::take_all))]
     fn held_before(self, stripe: u64, i: usize) -> bool
         requires { i ≤ 8 }
         ensures { result ≡ held_before self stripe i }
     {
-        self.held[..i].contains(&stripe)
+        for held in &self.held[..i] {
+            if *held == stripe {
+                return true;
+            }
+        }
+        false
     }
 
     // The lowest free record as far as a free record at i.
