@@ -139,9 +139,10 @@ impl Record {
         ensures { result ≡ missing_at cards layout self.stripe now }
     {
         if self.chosen == now {
-            return x;
+            x
+        } else {
+            missing_at(cards, layout, self.stripe, now)
         }
-        missing_at(cards, layout, self.stripe, now)
     }
 
     // What one look at the record finds.
