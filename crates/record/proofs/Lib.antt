@@ -1,8 +1,5 @@
 -- Laws of records and tables, by subject.
-pub mod Same
-pub mod Counting
 pub mod Zero
-pub mod Loops
 pub mod HeldBefore
 pub mod Clashes
 pub mod Eight

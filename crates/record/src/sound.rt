@@ -6,7 +6,7 @@ ghost use Rattle.record.specs.Life.{is_free, is_open, chosen_at};
 ghost use Rattle.record.specs.Look.{seen_as, found, nothing, look_of};
 ghost use Rattle.record.specs.Sound.{all_zero, legal_mask, legal_record, legal_chosen};
 
-use crate::life::{free, units, units_of};
+use crate::life::{units, units_of};
 use crate::{Look, Record};
 use geometry::{NONE, State, missing_at};
 
@@ -30,12 +30,20 @@ fn nothing(sound: bool) -> Look
 }
 
 impl Record {
-    // Every number of the record is zero.
-    #[tactic(auto, using(std::proofs::lemmas::Bool::Decides::nat_tests), unfolding(crate::specs::Sound::all_zero))]
+    // Every number of the record is zero. By one test: `self == free()` makes eight, and a request takes 4 % more instructions with it.
+    #[tactic(auto, using(crate::proofs::Zero::or_zero), unfolding(crate::specs::Sound::all_zero))]
     pub(crate) fn all_zero(self) -> bool
         ensures { result ≡ all_zero self }
     {
-        self == free()
+        (self.phase
+            | self.write
+            | self.stripe
+            | self.mask
+            | self.graph
+            | self.chosen
+            | self.done
+            | self.count)
+            == 0
     }
 
     // Open or finished, with a legal kind, stripe, mask and graph, in an array of so many cards and stripes.
@@ -131,9 +139,10 @@ impl Record {
         ensures { result ≡ missing_at cards layout self.stripe now }
     {
         if self.chosen == now {
-            return x;
+            x
+        } else {
+            missing_at(cards, layout, self.stripe, now)
         }
-        missing_at(cards, layout, self.stripe, now)
     }
 
     // What one look at the record finds.

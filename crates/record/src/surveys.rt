@@ -40,12 +40,17 @@ impl Survey {
     }
 
     // One of the first i records holds the stripe.
-    #[tactic(auto, using(crate::proofs::HeldBefore::held_take))]
+    #[tactic(auto, using(crate::proofs::HeldBefore::held_take, crate::proofs::HeldBefore::held_one, std::proofs::lemmas::List::take_all))]
     fn held_before(self, stripe: u64, i: usize) -> bool
         requires { i ≤ 8 }
         ensures { result ≡ held_before self stripe i }
     {
-        self.held[..i].contains(&stripe)
+        for held in &self.held[..i] {
+            if *held == stripe {
+                return true;
+            }
+        }
+        false
     }
 
     // The lowest free record as far as a free record at i.
@@ -60,10 +65,9 @@ impl Survey {
         ensures { result ≡ record { len = self.len; sound = self.sound && all_zero r; held = self.held; free = cond (eqb self.free self.len) i self.free } }
     {
         Survey {
-            len: self.len,
             sound: self.sound && r.all_zero(),
-            held: self.held,
             free: self.first_free(i),
+            ..self
         }
     }
 
@@ -76,27 +80,19 @@ impl Survey {
         let mut held = self.held;
         held[i] = stripe;
         Survey {
-            len: self.len,
             sound,
             held,
-            free: self.free,
+            ..self
         }
     }
 
-    // The survey after record r at i; as it was where there is no such place. It is made anew each time: a copy of the whole would also carry
-    // the bytes between its fields from turn to turn of a loop.
+    // The survey after record r at i; as it was where there is no such place.
     #[tactic(auto, using(std::proofs::lemmas::Bool::Decides::nat_tests), unfolding(crate::specs::Seen::seen, crate::specs::Seen::still_sound, crate::specs::Seen::still_free, crate::specs::Seen::fine))]
     pub fn seen(self, state: State, i: u64, r: Record) -> Survey
         ensures { result ≡ seen state self i r }
     {
-        let held = self.held;
         if i > 7 {
-            return Survey {
-                len: self.len,
-                sound: self.sound,
-                held,
-                free: self.free,
-            };
+            return self;
         }
         if r.is_free() {
             return self.seen_free(i, r);
@@ -104,13 +100,12 @@ impl Survey {
         let right = self.sound && r.is_sound(state);
         let open = r.is_open();
         if open {
-            return self.seen_open(right, r.stripe, i as usize);
-        }
-        Survey {
-            len: self.len,
-            sound: right,
-            held,
-            free: self.free,
+            self.seen_open(right, r.stripe, i as usize)
+        } else {
+            Survey {
+                sound: right,
+                ..self
+            }
         }
     }
 
@@ -119,20 +114,13 @@ impl Survey {
     fn left_out(self, i: u64) -> Survey
         ensures { result ≡ cond (ltb i 8) (record { len = self.len; sound = self.sound; held = self.held; free = cond (eqb self.free self.len) i self.free }) self }
     {
-        let held = self.held;
         if i > 7 {
-            return Survey {
-                len: self.len,
-                sound: self.sound,
-                held,
-                free: self.free,
-            };
-        }
-        Survey {
-            len: self.len,
-            sound: self.sound,
-            held,
-            free: self.first_free(i),
+            self
+        } else {
+            Survey {
+                free: self.first_free(i),
+                ..self
+            }
         }
     }
 
@@ -142,9 +130,10 @@ impl Survey {
         ensures { result ≡ seen state self i (cond (eqb i but) free r) }
     {
         if i == but {
-            return self.left_out(i);
+            self.left_out(i)
+        } else {
+            self.seen(state, i, r)
         }
-        self.seen(state, i, r)
     }
 
     // An open request holds the stripe.
