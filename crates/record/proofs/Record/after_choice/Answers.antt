@@ -28,5 +28,5 @@ returns c =
     let a = c.args in
     rw room
     (same _ _ refl refl refl refl
-    (c.choose.ensures ∙ ap (λ (n : ℕ). choose n (eqb a.self.write 1) a.self.mask a.out) c.units-n.ensures)
+    (c.number.ensures ∙ c.choose.ensures ∙ ap (λ (n : ℕ). choose n (eqb a.self.write 1) a.self.mask a.out) c.units-n.ensures)
     c.out_in.ensures refl refl)

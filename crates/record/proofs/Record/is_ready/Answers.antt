@@ -6,4 +6,4 @@ use Rattle.record.proofs.Record.is_ready.Goals as goal
 
 pub returns : goal.returns
 unfolding ready_in
-returns c = c.ready.ensures ∙ rw (c.units-n.ensures, c.chosen_at.ensures)
+returns c = c.ready.ensures ∙ rw (c.units.ensures, c.chosen_at.ensures)

@@ -14,7 +14,7 @@ use Rattle.graph.specs.Asked.{step_set, judged}
 use Rattle.graph.specs.Choice.{choose}
 use Rattle.graph.specs.Order.{complete, closed}
 use Rattle.graph.specs.Steps.{reads}
-use Rattle.graph.specs.declared.order.Judged.{Judged}
+use Rattle.graph.specs.declared.plan.Judged.{Judged}
 use Rattle.geometry.specs.Placement.{filled, out_in}
 use Rattle.record.specs.Asked.{few_in, sound_record_in}
 use Rattle.record.specs.Life.{is_open, units_of, chosen_at}
@@ -50,22 +50,22 @@ returns-then-not-legal_chosen c =
     let not_known : legal_chosen seen c.args.self ≡ false = fails c.legal_chosen.ensures c.if-not-legal_chosen.true-raw in
     rw (few_at, c.requires.0, legal, not_known) c.nothing-then-not-legal_chosen.ensures
 
-pub returns-then-self-choose : goal.returns-then-self-choose
+pub returns-then-self-right : goal.returns-then-self-right
 unfolding sound_record_in sound_record legal_record legal_chosen out_in filled right_graph
-returns-then-self-choose c =
+returns-then-self-right c =
     let seen = seen_as c.args.cards c.args.stripes c.args.layout c.args.now in
     let few_at : few_in seen ≡ true = few (units_of seen) (omega (arith, c.units_of-n.ensures, c.if-n-gt7.false)) in
     let legal : legal_record seen c.args.self ≡ true = holds c.is_legal.ensures c.if-not-is_legal.false-raw in
     let known : legal_chosen seen c.args.self ≡ true = holds c.legal_chosen.ensures c.if-not-legal_chosen.false-raw in
-    let graph_test : right_graph seen c.args.self ≡ eqb c.args.self.graph c.choose.result = ap (eqb c.args.self.graph) (sym (c.choose.ensures ∙ ap₂ (λ (n x : ℕ). choose n (eqb c.args.self.write 1) c.args.self.mask x) c.units_of-n.ensures c.requires.1)) in
+    let graph_test : right_graph seen c.args.self ≡ eqb c.args.self.graph c.number-right.result = ap (eqb c.args.self.graph) (sym (c.number-right.ensures ∙ c.choose.ensures ∙ ap₂ (λ (n x : ℕ). choose n (eqb c.args.self.write 1) c.args.self.mask x) c.units_of-n.ensures c.requires.1)) in
     rw (
       few_at,
       c.requires.0,
       legal,
       known,
-      graph_test ∙ ne_eqb c.args.self.graph c.choose.result c.if-self-choose.true,
+      graph_test ∙ ne_eqb c.args.self.graph c.number-right.result c.if-self-right.true,
     )
-    c.nothing-then-self-choose.ensures
+    c.nothing-then-self-right.ensures
 
 pub returns-then-not-judged : goal.returns-then-not-judged
 unfolding sound_record_in sound_record legal_record legal_chosen out_in filled right_graph right_steps
@@ -74,8 +74,8 @@ returns-then-not-judged c =
     let few_at : few_in seen ≡ true = few (units_of seen) (omega (arith, c.units_of-n.ensures, c.if-n-gt7.false)) in
     let legal : legal_record seen c.args.self ≡ true = holds c.is_legal.ensures c.if-not-is_legal.false-raw in
     let known : legal_chosen seen c.args.self ≡ true = holds c.legal_chosen.ensures c.if-not-legal_chosen.false-raw in
-    let graph_test : right_graph seen c.args.self ≡ eqb c.args.self.graph c.choose.result = ap (eqb c.args.self.graph) (sym (c.choose.ensures ∙ ap₂ (λ (n x : ℕ). choose n (eqb c.args.self.write 1) c.args.self.mask x) c.units_of-n.ensures c.requires.1)) in
-    let right_graph_law : right_graph seen c.args.self ≡ true = graph_test ∙ eq-eqb c.args.self.graph c.choose.result c.if-self-choose.false in
+    let graph_test : right_graph seen c.args.self ≡ eqb c.args.self.graph c.number-right.result = ap (eqb c.args.self.graph) (sym (c.number-right.ensures ∙ c.choose.ensures ∙ ap₂ (λ (n x : ℕ). choose n (eqb c.args.self.write 1) c.args.self.mask x) c.units_of-n.ensures c.requires.1)) in
+    let right_graph_law : right_graph seen c.args.self ≡ true = graph_test ∙ eq-eqb c.args.self.graph c.number-right.result c.if-self-right.false in
     -- the judgement of the done steps
     let judgement : let a = c.args in let n = units_of seen in let x = chosen_at seen a.self in ◌≡◌ {A = Judged} c.judge-judged.result (record { right = closed n a.self.graph a.self.mask x a.self.done; whole = complete n a.self.graph a.self.mask x a.self.done; steps = step_set n a.self.graph a.self.mask x; reads = set_of (n + 1) (reads n a.self.graph a.self.mask x) }) = let a = c.args in c.judge-judged.ensures ∙ ap₂ (λ (n x : ℕ). judged n a.self.graph a.self.mask x a.self.done) c.units_of-n.ensures c.requires.1 ∙ judged_few (units_of seen) a.self.graph a.self.mask (chosen_at seen a.self) a.self.done few_at in
     let steps_test : c.judge-judged.result.right ≡ right_steps seen c.args.self = ap (λ (j : Judged). j.right) judgement in
@@ -96,8 +96,8 @@ returns-then-not-right_count c =
     let few_at : few_in seen ≡ true = few (units_of seen) (omega (arith, c.units_of-n.ensures, c.if-n-gt7.false)) in
     let legal : legal_record seen c.args.self ≡ true = holds c.is_legal.ensures c.if-not-is_legal.false-raw in
     let known : legal_chosen seen c.args.self ≡ true = holds c.legal_chosen.ensures c.if-not-legal_chosen.false-raw in
-    let graph_test : right_graph seen c.args.self ≡ eqb c.args.self.graph c.choose.result = ap (eqb c.args.self.graph) (sym (c.choose.ensures ∙ ap₂ (λ (n x : ℕ). choose n (eqb c.args.self.write 1) c.args.self.mask x) c.units_of-n.ensures c.requires.1)) in
-    let right_graph_law : right_graph seen c.args.self ≡ true = graph_test ∙ eq-eqb c.args.self.graph c.choose.result c.if-self-choose.false in
+    let graph_test : right_graph seen c.args.self ≡ eqb c.args.self.graph c.number-right.result = ap (eqb c.args.self.graph) (sym (c.number-right.ensures ∙ c.choose.ensures ∙ ap₂ (λ (n x : ℕ). choose n (eqb c.args.self.write 1) c.args.self.mask x) c.units_of-n.ensures c.requires.1)) in
+    let right_graph_law : right_graph seen c.args.self ≡ true = graph_test ∙ eq-eqb c.args.self.graph c.number-right.result c.if-self-right.false in
     let judgement : let a = c.args in let n = units_of seen in let x = chosen_at seen a.self in ◌≡◌ {A = Judged} c.judge-judged.result (record { right = closed n a.self.graph a.self.mask x a.self.done; whole = complete n a.self.graph a.self.mask x a.self.done; steps = step_set n a.self.graph a.self.mask x; reads = set_of (n + 1) (reads n a.self.graph a.self.mask x) }) = let a = c.args in c.judge-judged.ensures ∙ ap₂ (λ (n x : ℕ). judged n a.self.graph a.self.mask x a.self.done) c.units_of-n.ensures c.requires.1 ∙ judged_few (units_of seen) a.self.graph a.self.mask (chosen_at seen a.self) a.self.done few_at in
     let steps_test : c.judge-judged.result.right ≡ right_steps seen c.args.self = ap (λ (j : Judged). j.right) judgement in
     let whole_test : c.judge-judged.result.whole ≡ lacks_none seen c.args.self = ap (λ (j : Judged). j.whole) judgement in
@@ -114,8 +114,8 @@ returns c =
     let few_at : few_in seen ≡ true = few (units_of seen) (omega (arith, c.units_of-n.ensures, c.if-n-gt7.false)) in
     let legal : legal_record seen c.args.self ≡ true = holds c.is_legal.ensures c.if-not-is_legal.false-raw in
     let known : legal_chosen seen c.args.self ≡ true = holds c.legal_chosen.ensures c.if-not-legal_chosen.false-raw in
-    let graph_test : right_graph seen c.args.self ≡ eqb c.args.self.graph c.choose.result = ap (eqb c.args.self.graph) (sym (c.choose.ensures ∙ ap₂ (λ (n x : ℕ). choose n (eqb c.args.self.write 1) c.args.self.mask x) c.units_of-n.ensures c.requires.1)) in
-    let right_graph_law : right_graph seen c.args.self ≡ true = graph_test ∙ eq-eqb c.args.self.graph c.choose.result c.if-self-choose.false in
+    let graph_test : right_graph seen c.args.self ≡ eqb c.args.self.graph c.number-right.result = ap (eqb c.args.self.graph) (sym (c.number-right.ensures ∙ c.choose.ensures ∙ ap₂ (λ (n x : ℕ). choose n (eqb c.args.self.write 1) c.args.self.mask x) c.units_of-n.ensures c.requires.1)) in
+    let right_graph_law : right_graph seen c.args.self ≡ true = graph_test ∙ eq-eqb c.args.self.graph c.number-right.result c.if-self-right.false in
     let judgement : let a = c.args in let n = units_of seen in let x = chosen_at seen a.self in ◌≡◌ {A = Judged} c.judge-judged.result (record { right = closed n a.self.graph a.self.mask x a.self.done; whole = complete n a.self.graph a.self.mask x a.self.done; steps = step_set n a.self.graph a.self.mask x; reads = set_of (n + 1) (reads n a.self.graph a.self.mask x) }) = let a = c.args in c.judge-judged.ensures ∙ ap₂ (λ (n x : ℕ). judged n a.self.graph a.self.mask x a.self.done) c.units_of-n.ensures c.requires.1 ∙ judged_few (units_of seen) a.self.graph a.self.mask (chosen_at seen a.self) a.self.done few_at in
     let steps_test : c.judge-judged.result.right ≡ right_steps seen c.args.self = ap (λ (j : Judged). j.right) judgement in
     let whole_test : c.judge-judged.result.whole ≡ lacks_none seen c.args.self = ap (λ (j : Judged). j.whole) judgement in

@@ -18,6 +18,7 @@ unfolding admitted
 returns c =
     let a = c.args in
     same _ (admitted a.state a.write a.stripe a.mask) refl (as_number a.write) refl refl
-    (c.choose-chosen_graph.ensures
+    (c.number-chosen_graph.ensures
+    ∙ c.choose.ensures
     ∙ ap₂ (λ (n x : ℕ). choose n a.write a.mask x) c.units-n.ensures c.missing_in.ensures)
     c.out_in.ensures refl refl
