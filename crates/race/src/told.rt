@@ -87,7 +87,7 @@ pub(crate) fn step_name(rt: &impl Print, cards: u64, layout: u64, stripe: u64, k
     }
     let n = cards - 1;
     match graph::step_of(n, k) {
-        Action::Read(p) => moved(
+        Some(Action::Read(p)) => moved(
             rt,
             script::READ_UNIT,
             script::READ_PARITY,
@@ -95,8 +95,8 @@ pub(crate) fn step_name(rt: &impl Print, cards: u64, layout: u64, stripe: u64, k
             p,
             geometry::card_at(cards, layout, stripe, p),
         ),
-        Action::Sum => tell(rt, script::SUM),
-        Action::Write(p) => moved(
+        Some(Action::Sum) => tell(rt, script::SUM),
+        Some(Action::Write(p)) => moved(
             rt,
             script::WRITE_UNIT,
             script::WRITE_PARITY,
@@ -104,7 +104,7 @@ pub(crate) fn step_name(rt: &impl Print, cards: u64, layout: u64, stripe: u64, k
             p,
             geometry::card_at(cards, layout, stripe, p),
         ),
-        Action::Nothing => {}
+        None => {}
     }
 }
 

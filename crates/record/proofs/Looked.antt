@@ -11,7 +11,7 @@ use Rattle.geometry.specs.declared.State.{State}
 use Rattle.graph.proofs.Forerunners.{judged_few}
 use Rattle.graph.specs.Asked.{few_units, judged}
 use Rattle.graph.specs.Choice.{choose}
-use Rattle.graph.specs.declared.order.Judged.{Judged}
+use Rattle.graph.specs.declared.plan.Judged.{Judged}
 use Rattle.record.specs.Asked.{sound_record_in}
 use Rattle.record.specs.Life.{is_free, is_open, is_write, chosen_at}
 use Rattle.record.specs.Look.{seen_as, found, nothing}

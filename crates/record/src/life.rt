@@ -33,7 +33,7 @@ pub fn admitted(state: State, write: bool, stripe: u64, mask: u64) -> Record
     ensures { result ≡ admitted state write stripe mask }
 {
     let n = units(state);
-    let chosen_graph = graph::choose(n, write, mask, state.missing_in(stripe));
+    let chosen_graph = graph::choose(n, write, mask, state.missing_in(stripe)).number();
     Record {
         phase: Phase::Open.number(),
         write: write as u64,
@@ -59,15 +59,13 @@ impl Record {
     pub fn is_ready(self, state: State, k: u64) -> bool
         ensures { result ≡ ready_in state self k }
     {
-        let n = units(state);
-        graph::ready(
-            n,
-            self.graph,
-            self.mask,
-            self.chosen_at(state),
-            self.done,
-            k,
-        )
+        let plan = graph::Plan {
+            units: units(state),
+            graph: self.graph,
+            mask: self.mask,
+            missing: self.chosen_at(state),
+        };
+        plan.ready(self.done, k)
     }
 
     // One more step can be counted.
@@ -115,7 +113,7 @@ impl Record {
             return self;
         }
         let n = units(state);
-        self.graph = graph::choose(n, self.is_write(), self.mask, out);
+        self.graph = graph::choose(n, self.is_write(), self.mask, out).number();
         self.phase = Phase::Open.number();
         self.chosen = state.out_in(self.stripe);
         self.done = 0;

@@ -103,10 +103,17 @@ impl Record {
         if n > 7 || !self.is_legal(cards, stripes) || !self.legal_chosen(cards, now) {
             return nothing(false);
         }
-        if self.graph != graph::choose(n, self.is_write(), self.mask, x) {
+        let right = graph::choose(n, self.is_write(), self.mask, x).number();
+        if self.graph != right {
             return nothing(false);
         }
-        let judged = graph::judge(n, self.graph, self.mask, x, self.done);
+        let plan = graph::Plan {
+            units: n,
+            graph: self.graph,
+            mask: self.mask,
+            missing: x,
+        };
+        let judged = plan.judge(self.done);
         if !judged.right || !self.right_count(n, judged.whole) {
             return nothing(false);
         }
