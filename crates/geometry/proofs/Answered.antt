@@ -1,13 +1,13 @@
--- What placement answers in each case, as the code finds them.
+-- What placement answers where it is accepted.
 -- Assumes nothing.
 use Prim.Native.Nat.{ℕ, ◌-◌, ◌*◌, ◌≤◌, ◌<◌}
-use mathlib.Core.Bool.{Bool, true, false, cond}
-use mathlib.Core.Path.{◌≡◌, refl}
+use mathlib.Core.Bool.{false, cond}
+use mathlib.Core.Path.{◌≡◌}
 use native.Mathlib.Nat.{mul-le-mul, le_trans}
 use native.Mathlib.Omega.{arith}
 use lib.Dec.{leb}
-use borrow.Author.Tests.{le-leb, lt-leb, eq-eqb, ne_eqb}
-use Rattle.terms.specs.Reply.{first_row, on_accept, accepted, refused}
+use Rattle.std.proofs.lemmas.Bool.Decides.{nat_tests}
+use Rattle.terms.specs.Reply.{first_row, accepted, refused}
 use Rattle.geometry.specs.Answers.{places_of, beyond_places, place_refusal, place_reply, block_at_refusal, block_at_reply}
 use Rattle.geometry.specs.Limits.{none}
 use Rattle.geometry.specs.Placement.{stripe_of, card_of, block_of, position_of}
@@ -26,44 +26,20 @@ module _ (N S layout : ℕ) where
       mul-le-mul n (le_trans h b.stripes_high)
 
   module _ (L : ℕ) where
-    pub place_beyond : beyond_places N S layout ≡ true → place_reply N S layout L ≡ refused 1
-    unfolding place_reply place_refusal first_row
-    place_beyond e = simp e
-
-    pub place_range : beyond_places N S layout ≡ false → (N - 1) * S ≤ L → place_reply N S layout L ≡ refused 5
-    unfolding place_reply place_refusal first_row
-    place_range e h = simp (e, le-leb _ _ h)
-
     pub place_found : beyond_places N S layout ≡ false → L < (N - 1) * S → place_reply N S layout L ≡ accepted (card_of N layout L) (stripe_of N L)
     unfolding place_reply place_refusal first_row
-    place_found e h = simp (e, lt-leb _ _ h)
+    place_found e h = grind (arith, nat_tests)
 
-    -- the last two as one test, with the block's card found in another way
+    -- and where there is no such block, as one test, with the block's card found in another way
     pub place_tested : (c : ℕ) → beyond_places N S layout ≡ false → card_of N layout L ≡ c → cond (leb ((N - 1) * S) L) (refused 5) (accepted c (stripe_of N L)) ≡ place_reply N S layout L
     unfolding place_reply place_refusal first_row
-    place_tested c e f = rw (e, f) (go (leb ((N - 1) * S) L))
-      where
-        go : (t : Bool) → cond t (refused 5) (accepted c (stripe_of N L)) ≡ on_accept (cond t 5 0) (accepted c (stripe_of N L)) (refused (cond t 5 0))
-        go true = refl
-        go false = refl
+    place_tested c e f = grind (arith, nat_tests)
 
   module _ (c s : ℕ) where
-    pub block_at_beyond : beyond_places N S layout ≡ true → block_at_reply N S layout c s ≡ refused 1
-    unfolding block_at_reply block_at_refusal first_row
-    block_at_beyond e = simp e
-
-    pub block_at_no_card : beyond_places N S layout ≡ false → N ≤ c → block_at_reply N S layout c s ≡ refused 5
-    unfolding block_at_reply block_at_refusal first_row
-    block_at_no_card e h = simp (e, le-leb _ _ h)
-
-    pub block_at_no_stripe : beyond_places N S layout ≡ false → c < N → S ≤ s → block_at_reply N S layout c s ≡ refused 5
-    unfolding block_at_reply block_at_refusal first_row
-    block_at_no_stripe e hc h = simp (e, lt-leb _ _ hc, le-leb _ _ h)
-
     pub block_at_parity : beyond_places N S layout ≡ false → c < N → s < S → position_of N layout s c ≡ N - 1 → block_at_reply N S layout c s ≡ accepted 1 0
     unfolding block_at_reply block_at_refusal first_row
-    block_at_parity e hc hs p = simp (e, lt-leb _ _ hc, lt-leb _ _ hs, eq-eqb _ _ p)
+    block_at_parity e hc hs p = grind (arith, nat_tests)
 
     pub block_at_found : beyond_places N S layout ≡ false → c < N → s < S → ¬ (position_of N layout s c ≡ N - 1) → block_at_reply N S layout c s ≡ accepted 0 (block_of N s (position_of N layout s c))
     unfolding block_at_reply block_at_refusal first_row
-    block_at_found e hc hs p = simp (e, lt-leb _ _ hc, lt-leb _ _ hs, ne_eqb _ _ p)
+    block_at_found e hc hs p = grind (arith, nat_tests)

@@ -1,17 +1,17 @@
 -- What a state answers of its sizes and blocks, for a state within its limits: the right size and place, and no byte past the end.
 -- Assumes nothing.
 use Prim.Native.Nat.{ℕ, ◌+◌, ◌-◌, ◌≤◌, ◌<◌}
-use mathlib.Core.Bool.{true, ◌&&◌}
+use mathlib.Core.Bool.{true}
 use mathlib.Core.List.{List}
 use mathlib.Core.Path.{◌≡◌, refl, ◌∙◌}
 use native.Mathlib.Nat.{add-sub_cancel_left}
-use lib.Dec.{ltb}
 use lib.ListN.{length, take, drop}
-use borrow.Author.Tests.{ltb-true, lt-ltb, eq-eqb}
+use native.Mathlib.Omega.{arith}
+use borrow.Author.Tests.{eq-eqb}
+use Rattle.std.proofs.lemmas.Bool.Decides.{nat_tests}
 use Rattle.terms.specs.Lists.{part}
-use Rattle.terms.proofs.Rows.{and_left, and_right, and_both}
 use Rattle.geometry.specs.Asked.{image_size_in, cell_in, cell_part}
-use Rattle.geometry.specs.Store.{image_size, cell_at, image_wrong, legal_state, in_image}
+use Rattle.geometry.specs.Store.{image_size, cell_at, image_wrong, in_image}
 use Rattle.geometry.specs.declared.State.{State}
 use Rattle.geometry.proofs.Apart.{cell_inside}
 use Rattle.geometry.proofs.Bounds.{Bounds, legal_bounds, bounds_legal}
@@ -27,29 +27,14 @@ pub record Inside (st : State) (k w i h : ℕ) : Type 0 where
   pub second : i < h
 
 module _ (st : State) where
-  three : (k w i h : ℕ) → (legal_state st && ltb k w && ltb i h) ≡ true → Inside st k w i h
-  three k w i h e =
-      let ab = and_left (legal_state st && ltb k w) (ltb i h) e in
-      record {
-        bounds = legal_bounds _ _ _ _ (and_left (legal_state st) (ltb k w) ab);
-        first = ltb-true k w (and_right (legal_state st) (ltb k w) ab);
-        second = ltb-true i h (and_right (legal_state st && ltb k w) (ltb i h) e);
-      }
-
-  all_three : (k w i h : ℕ) → Inside st k w i h → (legal_state st && ltb k w && ltb i h) ≡ true
-  all_three k w i h p =
-      and_both (legal_state st && ltb k w) (ltb i h)
-      (and_both (legal_state st) (ltb k w) (bounds_legal _ _ _ _ p.bounds) (lt-ltb k w p.first))
-      (lt-ltb i h p.second)
-
   -- the tests as facts, and the facts as tests
   pub in_image_law : (c s : ℕ) → in_image st c s ≡ true → Inside st c st.cards s st.stripes
   unfolding in_image
-  in_image_law c s = three c st.cards s st.stripes
+  in_image_law c s e = grind (arith, nat_tests, legal_bounds)
 
   pub is_in_image : (c s : ℕ) → Inside st c st.cards s st.stripes → in_image st c s ≡ true
   unfolding in_image
-  is_in_image c s = all_three c st.cards s st.stripes
+  is_in_image c s p = grind (arith, nat_tests, bounds_legal)
 
   -- the sizes
   pub image_size_in_is : BoundsOf st → image_size_in st ≡ image_size st.cards st.stripes st.block

@@ -1,16 +1,14 @@
 -- The limits as facts: what the numbers of a legal geometry are, and how large the image and the work store can get.
 -- Assumes nothing.
 use Prim.Native.Nat.{ℕ, ◌+◌, ◌*◌, ◌%◌, ◌≤◌, ◌<◌}
-use mathlib.Core.Bool.{Bool, true, false, ◌&&◌}
-use mathlib.Core.Logic.{◌⊎◌, inl, inr}
+use mathlib.Core.Bool.{true, false}
+use mathlib.Core.Logic.{◌⊎◌}
 use mathlib.Core.Path.{◌≡◌}
 use native.Mathlib.Nat.{le_refl, mul-le-mul}
 use native.Mathlib.Omega.{arith}
-use lib.Dec.{ltb, eqb}
-use borrow.Author.Tests.{ltb-true, eqb-true, eq-eqb, not-false}
+use Rattle.std.proofs.lemmas.Bool.Decides.{nat_tests}
 use Rattle.terms.specs.Sets.{within}
-use Rattle.terms.proofs.Rows.{and_left, and_right, and_both, or_cases, within_low, within_high, within_intro}
-use Rattle.geometry.specs.Limits.{legal, legal_layout, legal_out, none, beyond}
+use Rattle.geometry.specs.Limits.{legal, legal_out, none, beyond}
 use Rattle.geometry.specs.Store.{image_size, work_size}
 use Rattle.geometry.specs.declared.Geometry.{Geometry}
 
@@ -26,49 +24,22 @@ pub record Bounds (N S B K : ℕ) : Type 0 where
   pub records_low : 1 ≤ K
   pub records_high : K ≤ 8
 
-all_four : (a b c d : Bool) → (a && b && c && d) ≡ true → (a ≡ true) × (b ≡ true) × (c ≡ true) × (d ≡ true)
-all_four a b c d e =
-    let abc = and_left (a && b && c) d e in
-    let ab = and_left (a && b) c abc in
-    (and_left a b ab, and_right a b ab, and_right (a && b) c abc, and_right (a && b && c) d e)
-
 module _ (N S B K : ℕ) where
   pub legal_bounds : legal N S B K ≡ true → Bounds N S B K
-  unfolding legal
-  legal_bounds e =
-      let size = within 16 512 B in
-      let whole = eqb (B % 16) 0 in
-      let (cards, stripes, block, records) = all_four (within 3 8 N) (within 1 1024 S) (size && whole) (within 1 8 K) e in
-      record {
-        cards_low = within_low 3 8 N cards;
-        cards_high = within_high 3 8 N cards;
-        stripes_low = within_low 1 1024 S stripes;
-        stripes_high = within_high 1 1024 S stripes;
-        block_low = within_low 16 512 B (and_left size whole block);
-        block_high = within_high 16 512 B (and_left size whole block);
-        block_whole = eqb-true (B % 16) 0 (and_right size whole block);
-        records_low = within_low 1 8 K records;
-        records_high = within_high 1 8 K records;
-      }
+  unfolding legal within
+  legal_bounds e = grind (arith, nat_tests)
 
   pub bounds_legal : Bounds N S B K → legal N S B K ≡ true
-  unfolding legal
-  bounds_legal b =
-      and_both _ _
-      (and_both _ _
-      (and_both _ _
-      (within_intro 3 8 N b.cards_low b.cards_high)
-      (within_intro 1 1024 S b.stripes_low b.stripes_high))
-      (and_both _ _ (within_intro 16 512 B b.block_low b.block_high) (eq-eqb (B % 16) 0 b.block_whole)))
-      (within_intro 1 8 K b.records_low b.records_high)
+  unfolding legal within
+  bounds_legal b = grind (arith, nat_tests)
 
-  -- an image is at most 4 MiB, and a work store at most 64 KiB
-  pub image_small : Bounds N S B K → image_size N S B ≤ 4194304
-  unfolding image_size
-  image_small b = mul-le-mul (mul-le-mul b.cards_high b.stripes_high) b.block_high
-
+  -- there are at most 8,192 blocks; an image is at most 4 MiB, and a work store at most 64 KiB
   pub sizes_fit : Bounds N S B K → N * S ≤ 8192
   sizes_fit b = mul-le-mul b.cards_high b.stripes_high
+
+  pub image_small : Bounds N S B K → image_size N S B ≤ 4194304
+  unfolding image_size
+  image_small b = mul-le-mul (sizes_fit b) b.block_high
 
   pub work_small : Bounds N S B K → work_size N B K ≤ 65536
   unfolding work_size
@@ -81,26 +52,13 @@ offset_fits row width column block r w c b =
     let number : row * width + column ≤ 9216 = omega arith in
     mul-le-mul number b
 
--- the card out is below N, or none is
-pub out_cases : (N out : ℕ) → legal_out N out ≡ true → (out < N) ⊎ (out ≡ none)
-unfolding legal_out
-out_cases N out e = go (or_cases _ _ e)
-  where
-    go : (ltb out N ≡ true) ⊎ (eqb out none ≡ true) → (out < N) ⊎ (out ≡ none)
-    go (inl t) = inl (ltb-true out N t)
-    go (inr t) = inr (eqb-true out none t)
-
 -- what refusal 1 leaves, of a geometry and the card out
 module _ (g : Geometry) (out : ℕ) (within : beyond g out ≡ false) where
   pub within_limits : Bounds g.cards g.stripes g.block g.records
   unfolding beyond
-  within_limits =
-      let sizes = legal g.cards g.stripes g.block g.records in
-      let placed = legal_layout g.layout in
-      legal_bounds _ _ _ _ (and_left sizes placed (and_left (sizes && placed) (legal_out g.cards out) (not-false _ within)))
+  within_limits = grind (arith, nat_tests, legal_bounds)
 
+  -- the card out is below N, or none is
   pub within_limits_out : (out < g.cards) ⊎ (out ≡ none)
-  unfolding beyond
-  within_limits_out =
-      let sizes = legal g.cards g.stripes g.block g.records in
-      out_cases g.cards out (and_right (sizes && legal_layout g.layout) (legal_out g.cards out) (not-false _ within))
+  unfolding beyond legal_out
+  within_limits_out = grind (arith, nat_tests)

@@ -1,23 +1,17 @@
 -- The two directions of placement are inverse: wherever one is accepted, the other leads back.
 -- Assumes nothing.
 use Prim.Native.Nat.{ℕ, zero-le, ◌+◌, ◌-◌, ◌*◌, ◌/◌, ◌%◌, ◌<◌}
-use mathlib.Core.Bool.{true, false}
-use mathlib.Core.Logic.{◌⊎◌, inl, inr}
+use mathlib.Core.Bool.{false}
 use mathlib.Core.Path.{◌≡◌, ap, sym, ◌∙◌}
-use native.Mathlib.Decide.{dec_lt, ℕ_discrete}
 use native.Mathlib.Nat.{le_refl, lt_of_le_of_lt, lt_of_lt_of_le, mod-lt, mul_comm, div-lt_iff_lt-mul, div-add-mod}
 use native.Mathlib.Omega.{arith}
-use Rattle.terms.specs.Reply.{Reply, accepted, refused}
-use Rattle.terms.proofs.Rows.{truth}
-use Rattle.geometry.specs.Answers.{beyond_places, place_reply, block_at_reply}
+use Rattle.terms.specs.Reply.{Reply, accepted, first_row}
+use Rattle.std.proofs.lemmas.Bool.Decides.{nat_tests}
+use Rattle.geometry.specs.Answers.{beyond_places, place_refusal, place_reply, block_at_refusal, block_at_reply}
 use Rattle.geometry.specs.Placement.{stripe_of, unit_of, card_of, block_of, position_of}
-use Rattle.geometry.proofs.Answered.{places_bounds, blocks_few, place_beyond, place_range, place_found, block_at_beyond, block_at_no_card, block_at_no_stripe, block_at_parity, block_at_found}
+use Rattle.geometry.proofs.Answered.{places_bounds, blocks_few, place_found, block_at_found}
 use Rattle.geometry.proofs.Grid.{grid_inside, grid_row, grid_column}
 use Rattle.geometry.proofs.Placing.{placed}
-
--- a refusal by another number than 0 is no acceptance
-not_both : {r : Reply} {k v w : ℕ} {X : Type 0} → ¬ (k ≡ 0) → r ≡ refused k → r ≡ accepted v w → X
-not_both h p q = absurd (h (sym (ap (λ (r : Reply). r.number) p) ∙ ap (λ (r : Reply). r.number) q))
 
 module _ (N S layout : ℕ) where
   -- what an accepted placement tells
@@ -26,15 +20,8 @@ module _ (N S layout : ℕ) where
     pub below : L < (N - 1) * S
 
   pub found : (L v w : ℕ) → place_reply N S layout L ≡ accepted v w → Found L
-  found L v w e = go (truth (beyond_places N S layout))
-    where
-      range : beyond_places N S layout ≡ false → Dec (L < (N - 1) * S) → Found L
-      range t (yes h) = record { within = t; below = h }
-      range t (no h) = not_both (omega arith) (place_range N S layout L t (omega arith)) e
-
-      go : (beyond_places N S layout ≡ true) ⊎ (beyond_places N S layout ≡ false) → Found L
-      go (inl t) = not_both (omega arith) (place_beyond N S layout L t) e
-      go (inr t) = range t (dec_lt L ((N - 1) * S))
+  unfolding place_reply place_refusal first_row
+  found L v w e = grind (arith, nat_tests)
 
   -- what an accepted block number tells
   pub record Holds (c s L : ℕ) : Type 0 where
@@ -45,27 +32,8 @@ module _ (N S layout : ℕ) where
     pub number : L ≡ block_of N s (position_of N layout s c)
 
   pub holds : (c s L : ℕ) → block_at_reply N S layout c s ≡ accepted 0 L → Holds c s L
-  holds c s L e = go (truth (beyond_places N S layout))
-    where
-      place : beyond_places N S layout ≡ false → c < N → s < S → Dec (position_of N layout s c ≡ N - 1) → Holds c s L
-      place t hc hs (yes p) = absurd (let q = ap (λ (r : Reply). r.first) (sym e ∙ block_at_parity N S layout c s t hc hs p) in omega arith)
-      place t hc hs (no p) =
-          record {
-            within = t;
-            card = hc;
-            stripe = hs;
-            unit = p;
-            number = ap (λ (r : Reply). r.second) (sym e ∙ block_at_found N S layout c s t hc hs p);
-          }
-
-      range : beyond_places N S layout ≡ false → Dec (c < N) → Dec (s < S) → Holds c s L
-      range t (no h) _ = not_both (omega arith) (block_at_no_card N S layout c s t (omega arith)) e
-      range t (yes hc) (no h) = not_both (omega arith) (block_at_no_stripe N S layout c s t hc (omega arith)) e
-      range t (yes hc) (yes hs) = place t hc hs (ℕ_discrete (position_of N layout s c) (N - 1))
-
-      go : (beyond_places N S layout ≡ true) ⊎ (beyond_places N S layout ≡ false) → Holds c s L
-      go (inl t) = not_both (omega arith) (block_at_beyond N S layout c s t) e
-      go (inr t) = range t (dec_lt c N) (dec_lt s S)
+  unfolding block_at_reply block_at_refusal first_row
+  holds c s L e = grind (arith, nat_tests)
 
   -- the card that holds a block in its stripe holds that block
   pub place_back : (L c s : ℕ) → place_reply N S layout L ≡ accepted c s → block_at_reply N S layout c s ≡ accepted 0 L

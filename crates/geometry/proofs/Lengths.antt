@@ -4,9 +4,9 @@ use Prim.Native.Nat.{ℕ}
 use mathlib.Core.Bool.{false}
 use mathlib.Core.List.{List}
 use mathlib.Core.Path.{◌≡◌}
-use lib.Dec.{eqb}
 use lib.ListN.{length}
-use borrow.Author.Tests.{eqb-true, not-false}
+use native.Mathlib.Omega.{arith}
+use Rattle.std.proofs.lemmas.Bool.Decides.{nat_tests}
 use Rattle.geometry.specs.Store.{image_size, work_size, image_wrong, work_wrong}
 use Rattle.geometry.specs.declared.State.{State}
 
@@ -15,8 +15,8 @@ module _ (st : State) where
     -- what refusal 2 leaves
     pub image_length : image_wrong st l ≡ false → length l ≡ image_size st.cards st.stripes st.block
     unfolding image_wrong
-    image_length e = eqb-true _ _ (not-false (eqb (length l) (image_size st.cards st.stripes st.block)) e)
+    image_length e = grind (arith, nat_tests)
 
     pub work_length : work_wrong st l ≡ false → length l ≡ work_size st.cards st.block st.records
     unfolding work_wrong
-    work_length e = eqb-true _ _ (not-false (eqb (length l) (work_size st.cards st.block st.records)) e)
+    work_length e = grind (arith, nat_tests)

@@ -7,10 +7,10 @@
 -- Assumes nothing.
 use Prim.Native.Nat.{ℕ, zero, zero-le, ◌-◌, ◌%◌, ◌≤◌, ◌<◌}
 use mathlib.Core.Bool.{Bool, true, false, cond}
-use mathlib.Core.Path.{◌≡◌, refl, sym, ap, ◌∙◌}
+use mathlib.Core.Path.{◌≡◌}
 use native.Mathlib.Nat.{lt_of_le_of_lt}
 use native.Mathlib.Omega.{arith}
-use borrow.Author.Tests.{lt-ltb, le-ltb, ltb-true, eq-eqb, ne_eqb}
+use Rattle.std.proofs.lemmas.Bool.Decides.{nat_tests}
 use lib.Dec.{ltb, eqb}
 use Rattle.geometry.specs.Level4.{card_at4, position_of4}
 use Rattle.geometry.specs.Level5.{card_at5, position_of5}
@@ -25,21 +25,15 @@ use Rattle.geometry.proofs.Level5.{card_at_block, left_symmetric}
 module _ {N : ℕ} {card position : ℕ → ℕ → ℕ} (placing : Placing N card position) where
   -- different positions of a stripe are on different cards
   pub one_position : (s i j : ℕ) → i < N → j < N → card s i ≡ card s j → i ≡ j
-  one_position s i j hi hj e = sym (placing.position_card s i hi) ∙ ap (position s) e ∙ placing.position_card s j hj
+  one_position s i j hi hj e = grind (arith, placing.position_card s i hi, placing.position_card s j hj)
 
   -- the position of a card, or N, which is no position, where there is no such card: it is p exactly where the card is p's
   module _ (s c p : ℕ) (hp : p < N) where
     pub card_found : card s p ≡ c → p ≡ cond (ltb c N) (position s c) N
-    card_found e =
-        let hc : c < N = rw e at (placing.card_below s p hp) in
-        sym (rw (lt-ltb c N hc) (ap (position s) (sym e) ∙ placing.position_card s p hp))
+    card_found e = grind (arith, nat_tests, placing.position_card s p hp, placing.card_below s p hp)
 
     pub position_found : p ≡ cond (ltb c N) (position s c) N → card s p ≡ c
-    position_found e = go (ltb c N) refl e
-      where
-        go : (t : Bool) → ltb c N ≡ t → p ≡ cond t (position s c) N → card s p ≡ c
-        go true f g = ap (card s) g ∙ placing.card_position s c (ltb-true c N f)
-        go false f g = absurd (omega arith)
+    position_found e = grind (arith, nat_tests, placing.card_position s c)
 
 -- ---- of an array's layout
 
@@ -60,29 +54,25 @@ position_small N layout s c h = (placed N layout (lt_of_le_of_lt zero-le h)).pos
 module _ (N layout L : ℕ) where
   pub card_of_4 : layout ≡ 4 → card_of N layout L ≡ L % (N - 1)
   unfolding card_at card_at4
-  card_of_4 e = rw (eq-eqb layout 4 e)
+  card_of_4 e = grind (arith, nat_tests)
 
   pub card_of_5 : zero < N → ¬ (layout ≡ 4) → card_of N layout L ≡ L % N
   unfolding card_at
-  card_of_5 some e = rw (ne_eqb layout 4 e) (card_at_block N some L)
+  card_of_5 some e = grind (arith, nat_tests, card_at_block N some L)
 
 module _ (N layout s i : ℕ) where
   -- the total forms: at a position or a card, and where there is none
   pub card_in_is : i < N → card_in N layout s i ≡ card_at N layout s i
   unfolding card_in
-  card_in_is h = simp (lt-ltb i N h)
-
-  pub card_in_none : N ≤ i → card_in N layout s i ≡ N
-  unfolding card_in
-  card_in_none h = simp (le-ltb i N h)
+  card_in_is h = grind (arith, nat_tests)
 
   pub missing_at_is : i < N → missing_at N layout s i ≡ position_of N layout s i
   unfolding missing_at
-  missing_at_is h = simp (lt-ltb i N h)
+  missing_at_is h = grind (arith, nat_tests)
 
   pub missing_at_none : N ≤ i → missing_at N layout s i ≡ N
   unfolding missing_at
-  missing_at_none h = simp (le-ltb i N h)
+  missing_at_none h = grind (arith, nat_tests)
 
 -- of a state: its placement, and the missing position of a stripe, which is its missing card's
 pub placed_in : (st : State) → zero < st.cards → Placing st.cards (card_of_position st) (position_of_card st)
