@@ -9,6 +9,7 @@ use crate::named::Graph;
 use crate::units::Few;
 
 // The masked units.
+#[tactic(auto, using(crate::proofs::Positions::masked_is))]
 pub(crate) fn masked_set(n: u64, mask: u64) -> u64
     requires { n ≤ 63 }
     ensures { result ≡ set_of (n + 1) (masked n mask) }
@@ -25,6 +26,7 @@ pub(crate) struct Sets {
 
 impl Few {
     // The units outside the mask.
+    #[tactic(auto, using(crate::proofs::Positions::masked_bound, crate::proofs::Positions::unmasked_is))]
     fn unmasked_set(self) -> u64
         ensures { result ≡ set_of (self.plan.units + 1) (unmasked self.plan.units self.plan.mask) }
     {
@@ -32,6 +34,7 @@ impl Few {
     }
 
     // The masked units and parity.
+    #[tactic(auto, using(crate::proofs::Positions::masked_and_parity_is))]
     fn masked_and_parity(self) -> u64
         ensures { result ≡ set_of (self.plan.units + 1) (λ p. masked self.plan.units self.plan.mask p || eqb p self.plan.units) }
     {
@@ -39,6 +42,7 @@ impl Few {
     }
 
     // Every position but the missing one.
+    #[tactic(auto, using(crate::proofs::Positions::present_is))]
     fn present(self) -> u64
         ensures { result ≡ set_of (self.plan.units + 1) (λ p. not (eqb p self.plan.missing)) }
     {
