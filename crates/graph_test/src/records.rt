@@ -10,10 +10,7 @@ use record::{Record, Survey};
 fn at(numbers: &[u64], i: usize) -> u64
     ensures { result ≡ get_or numbers.now i 0 }
 {
-    if i < numbers.len() {
-        return numbers[i];
-    }
-    0
+    numbers.get(i).copied().unwrap_or(0)
 }
 
 #[tactic(auto, unfolding(crate::specs::Numbers::state_from))]
@@ -59,11 +56,9 @@ fn survey(numbers: &[u64], all: &[u64]) -> Survey
     let len = (all.len() / 8) as u64;
     let top = Survey::to_see(state, len);
     let mut survey = Survey::started(state, len);
-    let mut i: u64 = 0;
-    while i < top {
+    for i in 0..top {
         let r = record(all, i as usize);
         survey = survey.seen(state, i, r);
-        i += 1;
     }
     survey
 }
@@ -72,16 +67,14 @@ fn survey(numbers: &[u64], all: &[u64]) -> Survey
 pub extern "C" fn table_test_sound(numbers: &[u64], all: &[u64]) -> bool
     ensures { result ≡ (survey_from numbers.now all.now).sound }
 {
-    let survey = survey(numbers, all);
-    survey.sound
+    survey(numbers, all).sound
 }
 
 #[unsafe(no_mangle)]
 pub extern "C" fn table_test_lowest_free(numbers: &[u64], all: &[u64]) -> u64
     ensures { result ≡ (survey_from numbers.now all.now).free }
 {
-    let survey = survey(numbers, all);
-    survey.free
+    survey(numbers, all).free
 }
 
 #[unsafe(no_mangle)]
