@@ -103,6 +103,22 @@ unfoldable pub xored : ℕ → (ℕ → List ℕ) → List ℕ → ℕ → ℕ
 xored zero f a i = get_or a i 0
 xored (suc n) f a i = bit_xor (xored n f a i) (get_or (f n) i 0)
 
+pub xored_none : (f : ℕ → List ℕ) (a : List ℕ) (i : ℕ) → get_or a i 0 ≡ xored 0 f a i
+unfolding xored
+xored_none f a i = refl
+
+-- one block more, of which b is what the loop has
+pub xored_next : (n : ℕ) (f : ℕ → List ℕ) (a : List ℕ) (i : ℕ) {b : List ℕ} {x : ℕ} → b ≡ f n → x ≡ xored n f a i
+    → bit_xor x (get_or b i 0) ≡ xored (n + 1) f a i
+unfolding xored
+xored_next n f a i e q = rw (add-one, e, q)
+
+-- it depends on no other byte
+pub xored_cong : (n : ℕ) (f : ℕ → List ℕ) (a b : List ℕ) (i : ℕ) → get_or a i 0 ≡ get_or b i 0 → xored n f a i ≡ xored n f b i
+unfolding xored
+xored_cong zero f a b i e = e
+xored_cong (suc n) f a b i e = ap (λ (x : ℕ). bit_xor x (get_or (f n) i 0)) (xored_cong n f a b i e)
+
 pub get_d_summed_in_order : (n : ℕ) (f : ℕ → List ℕ) (a : List ℕ) (i : ℕ) → i < length a → get_or (summed n f a) i 0 ≡ xored n f a i
 unfolding summed changes xored
 get_d_summed_in_order zero f a i h = refl
@@ -125,22 +141,6 @@ pub summed_cong : (n : ℕ) (f g : ℕ → List ℕ) (a : List ℕ) → ((k : �
 unfolding summed changes
 summed_cong zero f g a e = refl
 summed_cong (suc n) f g a e = ap₂ added (summed_cong n f g a (λ k l. e k (omega arith))) (e n (omega arith))
-
--- the blocks from m on are zeros, and add nothing
-pub summed_rest : (size m n : ℕ) (f g : ℕ → List ℕ) (a : List ℕ) → m ≤ n → ((k : ℕ) → k < m → f k ≡ g k)
-    → ((k : ℕ) → m ≤ k → f k ≡ zeros size) → summed n f a ≡ summed m g a
-unfolding summed changes
-summed_rest size m zero f g a h e z = ap (λ (k : ℕ). summed k g a) (let q : 0 ≡ m = omega arith in q)
-summed_rest size m (suc n) f g a h e z = last (λ l. summed_rest size m n f g a l e z) (ltb n m) refl
-  where
-    last : (m ≤ n → summed n f a ≡ summed m g a) → (b : Bool) → ltb n m ≡ b → added (summed n f a) (f n) ≡ summed m g a
-    last ih true t =
-        let l : n < m = ltb-true n m t in
-        let q : suc n ≡ m = omega arith in
-        summed_cong (suc n) f g a (λ k j. e k (omega arith)) ∙ ap (λ (k : ℕ). summed k g a) q
-    last ih false t =
-        let l : m ≤ n = ltb-false n m t in
-        ap (λ (b : List ℕ). added (summed n f a) b) (z n l) ∙ added_zeros (summed n f a) size ∙ ih l
 
 -- each byte is the exclusive or of the blocks' bytes there
 pub get_d_summed : (n : ℕ) (f : ℕ → List ℕ) (a : List ℕ) (i : ℕ) → i < length a
