@@ -1,15 +1,16 @@
 -- Laws of blocks: a whole copy, how long a sum is and what stands at each place, and sums of several blocks.
 -- Assumes nothing.
-use Prim.Native.Nat.{ℕ, zero, suc, ◌+◌, ◌≤◌, ◌<◌}
+use Prim.Native.Nat.{ℕ, zero, suc, ◌+◌, ◌-◌, ◌≤◌, ◌<◌, min}
 use mathlib.Core.Bool.{Bool, true, false, cond}
-use mathlib.Core.List.{List}
+use mathlib.Core.List.{List, ◌++◌}
 use mathlib.Core.Path.{◌≡◌, refl, sym, ap, ap₂, ◌∙◌}
 use native.Mathlib.Numerals.{add-one}
 use native.Mathlib.Omega.{arith}
-use borrow.Author.Tests.{lt-ltb, ltb-true, ltb-false}
+use borrow.Author.Tests.{lt-ltb, le-ltb, ltb-true, ltb-false}
 use lib.Bits.{bit_xor}
 use lib.Dec.{ltb}
-use lib.ListN.{length, get_or, length-replicate, get_or-replicate, get_or-eq_default}
+use lib.ListN.{length, get_or, take, drop, length-append, length-take, length-drop, length-replicate, get_or-append, get_or-replicate, get_or-eq_default}
+use lib.Seq.{get_or-take, get_or-drop, get_or-append_right}
 use Rattle.terms.specs.Lists.{changes}
 use Rattle.terms.specs.Sets.{xor_to}
 use Rattle.terms.proofs.Lists.{length_tabulate, get_d_tabulate, is_tabulate}
@@ -24,6 +25,28 @@ unfolding copied
 copied_whole a b e =
     sym (is_tabulate b (length a) (λ i. cond (ltb i (length b)) (get_or b i 0) (get_or a i 0)) 0 (sym e)
     (λ i h. rw (lt-ltb i (length b) (omega arith))))
+
+-- what both have is taken from b, and the rest of a stays
+pub copied_front : (a b : List ℕ) (n : ℕ) → n ≡ min (length a) (length b) → take n b ++ drop n a ≡ copied a b
+unfolding copied
+copied_front a b n e =
+    is_tabulate (take n b ++ drop n a) (length a) (λ i. cond (ltb i (length b)) (get_or b i 0) (get_or a i 0)) 0
+    (simp (length-append, length-take, length-drop) (omega arith)) (λ i h. place i h (ltb i n) refl)
+  where
+    front : length (take n b) ≡ n
+    front = simp length-take (omega arith)
+
+    place : (i : ℕ) → i < length a → (t : Bool) → ltb i n ≡ t
+        → get_or (take n b ++ drop n a) i 0 ≡ cond (ltb i (length b)) (get_or b i 0) (get_or a i 0)
+    place i h true t =
+        let l : i < n = ltb-true i n t in
+        get_or-append (take n b) (drop n a) 0 i (omega (arith, front)) ∙ get_or-take n b i 0 l ∙ sym (rw (lt-ltb i (length b) (omega arith)))
+    place i h false t =
+        let l : n ≤ i = ltb-false i n t in
+        get_or-append_right (take n b) (drop n a) i 0 (omega (arith, front))
+        ∙ get_or-drop n a (i - length (take n b)) 0
+        ∙ ap (λ (k : ℕ). get_or a k 0) (let q : n + (i - length (take n b)) ≡ i = omega (arith, front) in q)
+        ∙ sym (rw (le-ltb i (length b) (omega arith)))
 
 -- ---- a sum
 
@@ -80,6 +103,22 @@ unfoldable pub xored : ℕ → (ℕ → List ℕ) → List ℕ → ℕ → ℕ
 xored zero f a i = get_or a i 0
 xored (suc n) f a i = bit_xor (xored n f a i) (get_or (f n) i 0)
 
+pub xored_none : (f : ℕ → List ℕ) (a : List ℕ) (i : ℕ) → get_or a i 0 ≡ xored 0 f a i
+unfolding xored
+xored_none f a i = refl
+
+-- one block more, of which b is what the loop has
+pub xored_next : (n : ℕ) (f : ℕ → List ℕ) (a : List ℕ) (i : ℕ) {b : List ℕ} {x : ℕ} → b ≡ f n → x ≡ xored n f a i
+    → bit_xor x (get_or b i 0) ≡ xored (n + 1) f a i
+unfolding xored
+xored_next n f a i e q = rw (add-one, e, q)
+
+-- it depends on no other byte
+pub xored_cong : (n : ℕ) (f : ℕ → List ℕ) (a b : List ℕ) (i : ℕ) → get_or a i 0 ≡ get_or b i 0 → xored n f a i ≡ xored n f b i
+unfolding xored
+xored_cong zero f a b i e = e
+xored_cong (suc n) f a b i e = ap (λ (x : ℕ). bit_xor x (get_or (f n) i 0)) (xored_cong n f a b i e)
+
 pub get_d_summed_in_order : (n : ℕ) (f : ℕ → List ℕ) (a : List ℕ) (i : ℕ) → i < length a → get_or (summed n f a) i 0 ≡ xored n f a i
 unfolding summed changes xored
 get_d_summed_in_order zero f a i h = refl
@@ -102,22 +141,6 @@ pub summed_cong : (n : ℕ) (f g : ℕ → List ℕ) (a : List ℕ) → ((k : �
 unfolding summed changes
 summed_cong zero f g a e = refl
 summed_cong (suc n) f g a e = ap₂ added (summed_cong n f g a (λ k l. e k (omega arith))) (e n (omega arith))
-
--- the blocks from m on are zeros, and add nothing
-pub summed_rest : (size m n : ℕ) (f g : ℕ → List ℕ) (a : List ℕ) → m ≤ n → ((k : ℕ) → k < m → f k ≡ g k)
-    → ((k : ℕ) → m ≤ k → f k ≡ zeros size) → summed n f a ≡ summed m g a
-unfolding summed changes
-summed_rest size m zero f g a h e z = ap (λ (k : ℕ). summed k g a) (let q : 0 ≡ m = omega arith in q)
-summed_rest size m (suc n) f g a h e z = last (λ l. summed_rest size m n f g a l e z) (ltb n m) refl
-  where
-    last : (m ≤ n → summed n f a ≡ summed m g a) → (b : Bool) → ltb n m ≡ b → added (summed n f a) (f n) ≡ summed m g a
-    last ih true t =
-        let l : n < m = ltb-true n m t in
-        let q : suc n ≡ m = omega arith in
-        summed_cong (suc n) f g a (λ k j. e k (omega arith)) ∙ ap (λ (k : ℕ). summed k g a) q
-    last ih false t =
-        let l : m ≤ n = ltb-false n m t in
-        ap (λ (b : List ℕ). added (summed n f a) b) (z n l) ∙ added_zeros (summed n f a) size ∙ ih l
 
 -- each byte is the exclusive or of the blocks' bytes there
 pub get_d_summed : (n : ℕ) (f : ℕ → List ℕ) (a : List ℕ) (i : ℕ) → i < length a

@@ -7,8 +7,9 @@ use mathlib.Core.Path.{◌≡◌, refl, sym, ap, ◌∙◌}
 use native.Mathlib.Omega.{arith}
 use borrow.Author.Tests.{eq-eqb, ne_eqb, eqb-true, lt-ltb, le-ltb, ltb-true, ltb-false}
 use lib.Dec.{ltb, eqb}
-use lib.ListN.{length, get_or}
-use lib.Seq.{ext_get_or}
+use lib.ListN.{length, get_or, take}
+use lib.Seq.{ext_get_or, get_or-take, length-take-le}
+use Rattle.std.specs.Prelude.{Option, Some, None, MatchOption, ◌≢◌}
 use Rattle.terms.specs.Lists.{part}
 use Rattle.terms.specs.Reply.{Reply, accepted}
 use Rattle.terms.specs.Sets.{lowest}
@@ -68,7 +69,7 @@ module _ (l : Looking) where
   unfolding reports
   reports_passed s e = rw e
 
-  reports_right : (s : ℕ) → wrong_in l s ≡ l.block → reports l s ≡ false
+  pub reports_right : (s : ℕ) → wrong_in l s ≡ l.block → reports l s ≡ false
   unfolding reports
   reports_right s e = rw e (both (not (l.pass s)) (le-ltb l.block l.block (omega arith)))
     where
@@ -76,7 +77,7 @@ module _ (l : Looking) where
       both true e = e
       both false e = refl
 
-  reports_wrong : (s : ℕ) → l.pass s ≡ false → wrong_in l s < l.block → reports l s ≡ true
+  pub reports_wrong : (s : ℕ) → l.pass s ≡ false → wrong_in l s < l.block → reports l s ≡ true
   unfolding reports
   reports_wrong s p h = rw p (lt-ltb (wrong_in l s) l.block h)
 
@@ -104,9 +105,9 @@ module _ (l : Looking) where
     at k m = ap (λ (t : List ℕ). get_or t k 0) is ∙ sum_byte_law s k fit.block m
 
     -- its bytes are zero: the stripe is right, and beyond its block the sum was never touched, so that the next stripe begins with zero bytes too
-    pub sum_right : ((k : ℕ) → k < l.block → get_or sum k 0 ≡ 0) → (reports l s ≡ false) × (sum ≡ zeros 512)
+    pub sum_right : ((k : ℕ) → k < l.block → get_or sum k 0 ≡ 0) → (wrong_in l s ≡ l.block) × (sum ≡ zeros 512)
     sum_right z = (
-      reports_right s (byte_none s (λ k m. sym (at k m) ∙ z k m)),
+      byte_none s (λ k m. sym (at k m) ∙ z k m),
       ext_get_or 0 sum (zeros 512) (sum_length ∙ sym (length_zeros 512))
           (λ k m. place k (omega (arith, sum_length, length_zeros 512)) (ltb k l.block) refl),
     )
@@ -119,21 +120,36 @@ module _ (l : Looking) where
             ∙ get_d_summed_beyond l.cards (cell l.stripes l.block l.image s) (zeros 512) k m
             (λ c hc. omega (arith, length_cell fit s c hs hc))
 
-    pub sum_clear : all_zero l.block sum ≡ true → (reports l s ≡ false) × (sum ≡ zeros 512)
+    pub sum_clear : all_zero l.block sum ≡ true → (wrong_in l s ≡ l.block) × (sum ≡ zeros 512)
     unfolding all_zero
     sum_clear e = sum_right (λ k m. eqb-true (get_or sum k 0) 0 (all_below_elim l.block (λ i. eqb (get_or sum i 0) 0) e k m))
 
     -- byte b is the first that is not
-    module _ (b : ℕ) (h : b < l.block) (e : get_or sum b 0 ≡ 0 → ⊥) (z : (k : ℕ) → k < b → get_or sum k 0 ≡ 0) where
-      pub sum_wrong_byte : wrong_in l s ≡ b
-      sum_wrong_byte =
-          byte_found s b h (λ q. e (at b h ∙ q))
-          (λ k m.
-          let n : k < l.block = omega arith in
-          sym (at k n) ∙ z k m)
+    sum_wrong_byte : (b : ℕ) → b < l.block → get_or sum b 0 ≢ 0 → ((k : ℕ) → k < b → get_or sum k 0 ≡ 0) → wrong_in l s ≡ b
+    sum_wrong_byte b h e z =
+        byte_found s b h (λ q. e (at b h ∙ q))
+        (λ k m.
+        let n : k < l.block = omega arith in
+        sym (at k n) ∙ z k m)
 
-      pub sum_wrong : l.pass s ≡ false → reports l s ≡ true
-      sum_wrong p = reports_wrong s p (rw sum_wrong_byte h)
+    -- what a search through its first bytes has found
+    pub sum_found : (o : Option ℕ)
+        → MatchOption o ((k : ℕ) → k < length (take l.block sum) → get_or (take l.block sum) k 0 ≡ 0)
+        (λ b. (b < length (take l.block sum)) × (get_or (take l.block sum) b 0 ≢ 0) × ((k : ℕ) → k < b → get_or (take l.block sum) k 0 ≡ 0))
+        → MatchOption o ((wrong_in l s ≡ l.block) × (sum ≡ zeros 512)) (λ b. (b < l.block) × (wrong_in l s ≡ b))
+    sum_found = go (length-take-le l.block sum (omega (arith, sum_length, fit.block)))
+      where
+        go : length (take l.block sum) ≡ l.block → (o : Option ℕ)
+            → MatchOption o ((k : ℕ) → k < length (take l.block sum) → get_or (take l.block sum) k 0 ≡ 0)
+            (λ b. (b < length (take l.block sum)) × (get_or (take l.block sum) b 0 ≢ 0) × ((k : ℕ) → k < b → get_or (take l.block sum) k 0 ≡ 0))
+            → MatchOption o ((wrong_in l s ≡ l.block) × (sum ≡ zeros 512)) (λ b. (b < l.block) × (wrong_in l s ≡ b))
+        go long None z = sum_right (λ k m. sym (get_or-take l.block sum k 0 m) ∙ z k (omega (arith, long)))
+        go long (Some b) f =
+            let inside : b < l.block = omega (arith, f.0, long) in (
+              inside,
+              sum_wrong_byte b inside (λ q. f.1 (get_or-take l.block sum b 0 inside ∙ q))
+                  (λ k m. sym (get_or-take l.block sum k 0 (omega (arith, inside, m))) ∙ f.2 k m),
+            )
 
   -- ---- by all stripes
 

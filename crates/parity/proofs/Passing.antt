@@ -1,32 +1,33 @@
 -- Stripes that are passed over: by a list of their numbers, and that a scan depends on which they are and on nothing else of the list.
 -- Assumes nothing.
 use Prim.Native.Nat.{ℕ, ◌<◌}
-use mathlib.Core.Bool.{Bool, true, false, not, ◌&&◌}
-use mathlib.Core.List.{List}
-use mathlib.Core.Path.{◌≡◌, refl, sym, ap, ◌∙◌}
-use borrow.Author.Tests.{eq-eqb, ne_eqb}
+use mathlib.Core.Bool.{Bool, true, false, not, ◌&&◌, ◌||◌}
+use mathlib.Core.List.{List, [], ◌∷◌}
+use mathlib.Core.Path.{◌≡◌, refl, sym, ap}
+use borrow.Author.Tests.{ne_eqb}
+use Rattle.std.specs.List.{list_any}
 use lib.Dec.{ltb, eqb}
 use lib.ListN.{length, get_or}
 use Rattle.terms.specs.Lists.{every, among}
-use Rattle.terms.proofs.Lists.{every_elim, every_intro}
-use Rattle.terms.proofs.Rows.{true≢false}
+use Rattle.terms.proofs.Lists.{every_intro}
 use Rattle.terms.proofs.Sets.{lowest_cong}
 use Rattle.parity.specs.Parity.{wrong_byte, wrong_stripe, right_parity, disagreement, looked}
 
 module _ (skip : List ℕ) (s : ℕ) where
-  -- a stripe that stands in the list is passed over
-  pub among_found : (k : ℕ) → k < length skip → get_or skip k 0 ≡ s → true ≡ among skip s
-  unfolding among
-  among_found k h e = go (every (λ h. not (eqb h s)) skip) refl
-    where
-      go : (b : Bool) → every (λ h. not (eqb h s)) skip ≡ b → true ≡ not b
-      go true q = true≢false (sym (every_elim (λ h. not (eqb h s)) skip k 0 q h) ∙ rw (eq-eqb (get_or skip k 0) s e))
-      go false q = refl
-
-  -- one that does not is looked at
+  -- a stripe that does not stand in the list is looked at
   pub among_none : ((k : ℕ) → k < length skip → get_or skip k 0 ≡ s → ⊥) → false ≡ among skip s
   unfolding among
   among_none n = ap not (sym (every_intro (λ h. not (eqb h s)) skip 0 (λ k h. rw (ne_eqb (get_or skip k 0) s (n k h)))))
+
+-- whether an element is the stripe
+pub among_is : (skip : List ℕ) (s : ℕ) → list_any (λ h. eqb h s) skip ≡ among skip s
+unfolding among every
+among_is [] s = refl
+among_is (h ∷ skip) s = go (eqb h s) (among_is skip s)
+  where
+    go : (b : Bool) → list_any (λ h. eqb h s) skip ≡ not (every (λ h. not (eqb h s)) skip) → (b || list_any (λ h. eqb h s) skip) ≡ not (not b && every (λ h. not (eqb h s)) skip)
+    go true e = refl
+    go false e = e
 
 -- two ways to say which stripes are passed over, the same below S
 module _ (N S B : ℕ) (image : List ℕ) (p q : ℕ → Bool) (same : (s : ℕ) → s < S → p s ≡ q s) where

@@ -3,12 +3,15 @@
 use Prim.Native.Nat.{ℕ, ◌<◌}
 use mathlib.Core.Bool.{Bool, true, false, cond, not}
 use mathlib.Core.List.{List, [], ◌∷◌}
-use mathlib.Core.Path.{◌≡◌, refl, sym, ◌∙◌}
+use mathlib.Core.Path.{◌≡◌, refl, sym, ap, ◌∙◌}
 use native.Mathlib.Omega.{arith}
-use borrow.Author.Tests.{eq-eqb, ne_eqb}
+use borrow.Author.Tests.{eq-eqb, ne_eqb, eqb-false}
 use lib.ListN.{get_or, replicate, get_or-replicate}
 use Rattle.terms.specs.Lists.{among}
-use Rattle.terms.specs.Reply.{Reply, accepted, refused, row, first_row, on_accept, refused_or13}
+use Rattle.terms.specs.Reply.{Reply, Row, accepted, refused, refusal_reply, number_of, row, first_row, on_accept, refused_or13}
+use Rattle.terms.specs.declared.refusal.Refusal.{Refusal}
+use Rattle.terms.proofs.Answers.{number_not_0}
+use Rattle.parity.specs.Fitting.{image_refusal}
 use Rattle.geometry.proofs.States.{state_bounds}
 use Rattle.geometry.specs.Limits.{none, beyond_state, is_lost}
 use Rattle.geometry.specs.Store.{image_wrong}
@@ -25,22 +28,35 @@ unfolding first_row
 last_row true d = refl
 last_row false d = refl
 
+-- a refusal by one of the first two rows is the whole table's
+first_left : (r : Refusal) (a b : Bool) (rows : List Row) (d : Reply) → refusal_reply r ≡ refused (first_row (row a 1 ∷ row b 2 ∷ []))
+    → refusal_reply r
+    ≡ on_accept (first_row (row a 1 ∷ row b 2 ∷ rows)) (accepted 0 0) (refused_or13 (first_row (row a 1 ∷ row b 2 ∷ rows)) d)
+unfolding first_row
+first_left r true b rows d e = e
+first_left r false true rows d e = e
+first_left r false false rows d e = absurd (eqb-false (number_of r) 0 (number_not_0 r) (ap (λ (p : Reply). p.number) e))
+
 -- what the scan of an idle array passes over
-abbrev no_stripes : List ℕ
+abbrev pub no_stripes : List ℕ
 no_stripes = replicate 8 1024
 
 no_stripe_law : (k : ℕ) → k < 8 → get_or no_stripes k 0 ≡ 1024
 no_stripe_law k l = get_or-replicate 8 k 1024 0 l
 
 module _ (st : State) (image : List ℕ) where
-  module _ (pass : ℕ → Bool) where
-    pub look_beyond : beyond_state st ≡ true → refused 1 ≡ look_reply st image pass
-    unfolding look_reply look_refusal first_row
-    look_beyond e = rw e
+  pub image_beyond : beyond_state st ≡ true → refused 1 ≡ refused (image_refusal st image)
+  unfolding image_refusal first_row
+  image_beyond e = rw e
 
-    pub look_length : beyond_state st ≡ false → image_wrong st image ≡ true → refused 2 ≡ look_reply st image pass
-    unfolding look_reply look_refusal first_row
-    look_length e w = rw (e, w)
+  pub image_length : beyond_state st ≡ false → image_wrong st image ≡ true → refused 2 ≡ refused (image_refusal st image)
+  unfolding image_refusal first_row
+  image_length e w = rw (e, w)
+
+  module _ (pass : ℕ → Bool) where
+    pub look_refused : (r : Refusal) → refusal_reply r ≡ refused (image_refusal st image) → refusal_reply r ≡ look_reply st image pass
+    unfolding look_reply look_refusal image_refusal
+    look_refused r e = first_left r (beyond_state st) (image_wrong st image) _ _ e
 
     pub look_all : beyond_state st ≡ false → image_wrong st image ≡ false
         → looked st.cards st.stripes st.block image pass ≡ look_reply st image pass
@@ -53,13 +69,9 @@ module _ (st : State) (image : List ℕ) where
   among_nothing : beyond_state st ≡ false → (s : ℕ) → s < st.stripes → among no_stripes s ≡ false
   among_nothing e s h = sym (among_none no_stripes s (λ k l q. omega (arith, (state_bounds st e).stripes_high, no_stripe_law k l)))
 
-  pub idle_beyond : beyond_state st ≡ true → refused 1 ≡ idle_scan_reply st image
-  unfolding idle_scan_reply idle_scan_refusal first_row
-  idle_beyond e = rw e
-
-  pub idle_length : beyond_state st ≡ false → image_wrong st image ≡ true → refused 2 ≡ idle_scan_reply st image
-  unfolding idle_scan_reply idle_scan_refusal first_row
-  idle_length e w = rw (e, w)
+  pub idle_refused : (r : Refusal) → refusal_reply r ≡ refused (image_refusal st image) → refusal_reply r ≡ idle_scan_reply st image
+  unfolding idle_scan_reply idle_scan_refusal image_refusal
+  idle_refused r e = first_left r (beyond_state st) (image_wrong st image) _ _ e
 
   module _ (e : beyond_state st ≡ false) (w : image_wrong st image ≡ false) where
     pub idle_lost : is_lost st ≡ true → refused 4 ≡ idle_scan_reply st image

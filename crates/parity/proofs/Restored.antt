@@ -1,6 +1,6 @@
 -- The sum of all blocks of a stripe but one card's is what the others give, and a sum carried to that card's block restores it.
 -- Assumes nothing.
-use Prim.Native.Nat.{ℕ, zero, suc, ◌+◌, ◌-◌, ◌<◌}
+use Prim.Native.Nat.{ℕ, zero, suc, ◌+◌, ◌-◌, ◌≤◌, ◌<◌}
 use mathlib.Core.Bool.{Bool, true, false, cond, and-false}
 use mathlib.Core.List.{List}
 use mathlib.Core.Path.{◌≡◌, refl, sym, ap, ap₂, ◌∙◌}
@@ -13,15 +13,15 @@ use Rattle.terms.specs.Lists.{part, put}
 use Rattle.terms.specs.Sets.{xor_to}
 use Rattle.terms.proofs.Lists.{length_part, get_d_part, is_tabulate}
 use Rattle.terms.proofs.Sets.{xor_to_cong}
-use Rattle.block.specs.Blocks.{added, summed, zeros, carried}
-use Rattle.block.proofs.Blocks.{length_zeros, length_summed, get_d_summed_zeros, summed_more}
+use Rattle.block.specs.Blocks.{summed, zeros, carried}
+use Rattle.block.proofs.Blocks.{length_zeros, length_summed, get_d_summed_zeros, summed_cong}
 use Rattle.block.proofs.Carried.{carried_whole}
 use Rattle.block.proofs.Sums.{others}
 use Rattle.block.proofs.Xor.{xor_zero}
-use Rattle.geometry.specs.Asked.{cell_in, cell_part}
+use Rattle.geometry.specs.Asked.{cell_in}
 use Rattle.geometry.specs.Store.{cell_at, image_wrong, in_image}
 use Rattle.geometry.specs.declared.State.{State}
-use Rattle.geometry.proofs.Asked.{Inside, in_image_law, is_in_image, cell_in_is, cell_in_inside}
+use Rattle.geometry.proofs.Asked.{Inside, cell_in_is, cell_in_inside}
 use Rattle.parity.specs.Fitting.{Fitting, beside}
 use Rattle.parity.specs.Parity.{cell, byte_at}
 use Rattle.parity.specs.Rest.{rest_of, restored, restored_in}
@@ -37,13 +37,16 @@ module _ (c k : ℕ) where
   unfolding beside
   beside_above h = rw (le-ltb k c (omega arith))
 
-  -- it is one of the cards
-  pub beside_card : (n : ℕ) → k + 1 < n → beside c k < n
-  beside_card n h = go (ltb k c) refl
+  -- it is one of the m cards, where there are n of them beside c, or c is none
+  pub beside_card : (n m : ℕ) → k < n → n ≤ m → (c < m → n < m) → beside c k < m
+  beside_card n m h low more = go (ltb k c) refl
     where
-      go : (b : Bool) → ltb k c ≡ b → beside c k < n
-      go true e = let l : k < c = ltb-true k c e in omega (arith, beside_below l)
-      go false e = let l : c < k + 1 = let q = ltb-false k c e in omega arith in omega (arith, beside_above l)
+      go : (b : Bool) → ltb k c ≡ b → beside c k < m
+      go true e = omega (arith, beside_below (ltb-true k c e))
+      go false e =
+          let l : c ≤ k = ltb-false k c e in
+          let r : n < m = more (omega arith) in
+          omega (arith, beside_above (let q : c < k + 1 = omega arith in q))
 
 -- their sum is the sum of all but that card's
 beside_sum : (m c : ℕ) (f : ℕ → ℕ) → c < suc m → xor_to m (λ k. f (beside c k)) ≡ xor_to (suc m) (others c f)
@@ -61,12 +64,12 @@ beside_sum (suc m) c f h = go (beside_sum m c f) (ltb c (suc m)) refl
         xor_to_cong (suc m) (λ k. f (beside c k)) (others c f) (λ k n. ap f (beside_below c k (omega arith)) ∙ sym (rw (ne_eqb k c (λ q. omega arith))))
         ∙ sym (ap (λ (x : ℕ). bit_xor (xor_to (suc m) (others c f)) x) (rw (eq-eqb (suc m) c (sym l))) ∙ xor_zero (xor_to (suc m) (others c f)))
 
--- two blocks more in a sum
-pub summed_two : (k : ℕ) (f : ℕ → List ℕ) (old sum a b new : List ℕ) → sum ≡ summed k f old → a ≡ f k → b ≡ f (k + 1) → new ≡ added (added sum a) b
-    → new ≡ summed (k + 2) f old
-summed_two k f old sum a b new s p q e =
-    e ∙ ap₂ added (ap₂ added s p ∙ sym (summed_more k f old)) q ∙ sym (summed_more (k + 1) f old)
-    ∙ ap (λ (n : ℕ). summed n f old) (let r : k + 1 + 1 ≡ k + 2 = omega arith in r)
+-- beside the card after the last are all of them
+pub all_cards : (S B : ℕ) (image : List ℕ) (s n m : ℕ) (sum : List ℕ) → n ≡ m
+    → summed n (λ k. cell S B image s (beside n k)) sum ≡ summed m (cell S B image s) sum
+all_cards S B image s n m sum e =
+    summed_cong n (λ k. cell S B image s (beside n k)) (cell S B image s) sum (λ k l. ap (cell S B image s) (beside_below n k l))
+    ∙ ap (λ (j : ℕ). summed j (cell S B image s) sum) e
 
 -- ---- the block that is restored
 
@@ -77,13 +80,6 @@ module _ (st : State) (image : List ℕ) (c s : ℕ) where
 
   pub length_rest_sum : length rest_sum ≡ 512
   length_rest_sum = length_summed (st.cards - 1) (λ k. cell st.stripes st.block image s (beside c k)) (zeros 512) ∙ length_zeros 512
-
-  -- another card's block, as a part of an image of the right length
-  pub block_is : (d : ℕ) → in_image st c s ≡ true → image_wrong st image ≡ false → d < st.cards → cell_part st d s image ≡ cell st.stripes st.block image s d
-  unfolding cell_part cell
-  block_is d there right below =
-      let at = in_image_law st c s there in
-      rw (is_in_image st d s (record { bounds = at.bounds; first = below; second = at.second }), right)
 
   module _ (fit : Fitting st.cards st.stripes st.block image) (there : Inside st c st.cards s st.stripes) where
     -- a byte of the sum is the exclusive or of the others' bytes

@@ -1,9 +1,10 @@
--- What the private functions of this crate ask and go by: the numbers of an array and its image, once refusals 1 and 2 are tested, eight blocks, and the
--- cards beside one.
+-- What the private functions of this crate ask and go by: the numbers of an array and its image, once refusals 1 and 2 are tested, and the cards beside one.
 -- Assumes nothing.
-use Rattle.std.specs.Prelude.{ℕ, ◌+◌, ◌≤◌, cond, List, [], ◌∷◌, ◌≡◌, ltb, length, get_or}
-use Rattle.block.specs.Blocks.{zeros}
-use Rattle.geometry.specs.Store.{image_size}
+use Rattle.std.specs.Prelude.{ℕ, ◌+◌, ◌≤◌, cond, List, [], ◌∷◌, ◌≡◌, ltb, length}
+use Rattle.terms.specs.Reply.{row, first_row}
+use Rattle.geometry.specs.Limits.{beyond_state}
+use Rattle.geometry.specs.Store.{image_size, image_wrong}
+use Rattle.geometry.specs.declared.State.{State}
 
 pub record Fitting (N S B : ℕ) (image : List ℕ) : Type 0 where
   pub cards : N ≤ 8
@@ -11,26 +12,13 @@ pub record Fitting (N S B : ℕ) (image : List ℕ) : Type 0 where
   pub block : B ≤ 512
   pub whole : length image ≡ image_size N S B
 
--- eight blocks by their number
-unfoldable pub eight : (a b c d e f g h : List ℕ) → ℕ → List ℕ
-eight a b c d e f g h k = get_or (a ∷ b ∷ c ∷ d ∷ e ∷ f ∷ g ∷ h ∷ []) k []
+-- N, S, B and the image are those of a state and of what is lent
+abbrev pub LiesIn : State → List ℕ → ℕ → ℕ → ℕ → List ℕ → Type 0
+LiesIn st lent N S B image = (N ≡ st.cards) × (S ≡ st.stripes) × (B ≡ st.block) × (image ≡ lent)
 
--- each of them has size bytes
-pub record EightLong (size : ℕ) (a b c d e f g h : List ℕ) : Type 0 where
-  pub a_long : length a ≡ size
-  pub b_long : length b ≡ size
-  pub c_long : length c ≡ size
-  pub d_long : length d ≡ size
-  pub e_long : length e ≡ size
-  pub f_long : length f ≡ size
-  pub g_long : length g ≡ size
-  pub h_long : length h ≡ size
-
--- the last three are zeros
-pub record LastZero (size : ℕ) (f g h : List ℕ) : Type 0 where
-  pub f_zero : f ≡ zeros size
-  pub g_zero : g ≡ zeros size
-  pub h_zero : h ≡ zeros size
+-- refusals 1 and 2, of a state and an image
+unfoldable pub image_refusal : State → List ℕ → ℕ
+image_refusal st image = first_row (row (beyond_state st) 1 ∷ row (image_wrong st image) 2 ∷ [])
 
 -- the k-th card beside card c, ascending
 unfoldable pub beside : ℕ → ℕ → ℕ

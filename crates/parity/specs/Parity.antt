@@ -4,16 +4,11 @@ use Rattle.std.specs.Prelude.{ℕ, ◌+◌, Bool, cond, not, ◌&&◌, List, ltb
 use Rattle.terms.specs.Lists.{part}
 use Rattle.terms.specs.Reply.{Reply, accepted}
 use Rattle.terms.specs.Sets.{lowest, xor_to}
-use Rattle.block.specs.Blocks.{zeros}
 use Rattle.geometry.specs.Store.{cell_at}
 
 -- the block of card c in stripe s: a part of the image that starts in its middle
 unfoldable pub cell : ℕ → ℕ → List ℕ → ℕ → ℕ → List ℕ
 cell S B image s c = part (cell_at S B c s) B image
-
--- the same, and as many zero bytes where there is no card c among the N
-unfoldable pub cell_or_none : ℕ → ℕ → ℕ → List ℕ → ℕ → ℕ → List ℕ
-cell_or_none N S B image s c = cond (ltb c N) (cell S B image s c) (zeros B)
 
 -- byte b of the block of card c in stripe s
 unfoldable pub byte_at : ℕ → ℕ → List ℕ → ℕ → ℕ → ℕ → ℕ

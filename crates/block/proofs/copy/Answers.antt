@@ -1,35 +1,13 @@
--- `block::copy` meets its contract. The loop's invariant: dst is as long as it was, its first i bytes are those of src, the others its own.
+-- `block::copy` meets its contract: the front of src, and then what dst has from there on.
 -- Assumes nothing.
-use Prim.Native.Nat.{◌-◌}
-use mathlib.Core.Path.{refl, ◌∙◌}
-use native.Mathlib.Omega.{arith}
-use borrow.Author.Rules.{rules}
-use borrow.Author.Tests.{lt-ltb, le-ltb}
-use lib.ListN.{length, get_or, length-set}
-use Rattle.block.specs.Blocks.{copied}
-use Rattle.block.proofs.Filled.{filled_none, filled_store, filled_all}
-use Rattle.block.proofs.copy.Invariants.{byte}
+use Prim.Native.Nat.{ℕ}
+use mathlib.Core.Path.{ap, ◌∙◌}
+use lib.ListN.{drop}
+use mathlib.Core.List.{List, ◌++◌}
+use Rattle.block.proofs.Blocks.{copied_front}
 use Rattle.block.proofs.copy.Goals as goal
 
-pub loop-i-init : goal.loop-i-init
-loop-i-init c = (search rules, filled_none (byte c.args.dst.now c.args.src.now) c.args.dst.now, refl)
-
-pub loop-i-preserved : goal.loop-i-preserved
-loop-i-preserved c =
-    let at = c.loop-i in
-    let args = c.args in
-    let dst = args.dst.now in
-    let src = args.src.now in (
-      search rules,
-      filled_store (byte dst src) dst at.dst at.i (get_or src at.i 0) at.invariant.1 (omega arith) (rw (lt-ltb at.i (length src) (omega arith))),
-      length-set at.dst at.i (get_or src at.i 0) ∙ at.invariant.2,
-    )
-
 pub returns : goal.returns
-unfolding copied
 returns c =
-    let at = c.loop-i in
-    let args = c.args in
-    let dst = args.dst.now in
-    let src = args.src.now in
-    at.invariant.1 ∙ filled_all (byte dst src) dst at.i (λ k h m. rw (le-ltb k (length src) (omega arith)))
+    ap (λ (l : List ℕ). l ++ drop c.min-n.result c.args.dst.now) c.copy_from_slice.ensures.after
+    ∙ copied_front c.args.dst.now c.args.src.now c.min-n.result c.min-n.ensures

@@ -1,57 +1,30 @@
 -- `parity::idle_scan` meets its contract: refusals 1, 2, 4 and 12, and then what the scan of all stripes answers.
 -- Assumes nothing.
-use mathlib.Core.Path.{refl, sym, ◌∙◌}
-use Rattle.geometry.proofs.States.{state_bounds}
-use Rattle.parity.specs.Scan.{reply, scan_of}
-use Rattle.parity.proofs.Inside.{image_whole, image_not_whole}
-use Rattle.parity.proofs.Replies.{idle_beyond, idle_length, idle_lost, idle_out, idle_all}
+use mathlib.Core.Path.{sym, ◌∙◌}
+use Rattle.std.proofs.lemmas.Result.{err_from_is_err_and}
+use Rattle.terms.specs.Lists.{among}
+use Rattle.parity.proofs.Replies.{no_stripes, look_all, idle_refused, idle_lost, idle_out, idle_all}
 use Rattle.parity.proofs.idle_scan.Goals as goal
 
-pub returns-then-beyond : goal.returns-then-beyond
-unfolding reply scan_of
-returns-then-beyond c = (
-  let args = c.args in
-      idle_beyond args.state args.image.now (sym c.beyond.ensures ∙ c.if-beyond.true),
-  refl,
-)
-
-pub returns-then-image-image_size : goal.returns-then-image-image_size
-unfolding reply scan_of
-returns-then-image-image_size c = (
-  let args = c.args in
-      let inside = sym c.beyond.ensures ∙ c.if-beyond.false in
-      idle_length args.state args.image.now inside
-      (image_not_whole args.state args.image.now (state_bounds args.state inside) (λ q. c.if-image-image_size.true (q ∙ sym c.image_size.ensures))),
-  refl,
-)
+pub returns-in_err-cells : goal.returns-in_err-cells
+returns-in_err-cells c =
+    let p = err_from_is_err_and c.from_residual.result c.from_residual.ensures.1 in
+    rw (p.1, p.2) (idle_refused c.args.state c.args.image.now _ c.in_err-cells.ensures.err)
 
 pub returns-then-is_lost : goal.returns-then-is_lost
-unfolding reply scan_of
-returns-then-is_lost c = (
-  let args = c.args in
-      let inside = sym c.beyond.ensures ∙ c.if-beyond.false in
-      let whole = image_whole args.state args.image.now (state_bounds args.state inside) (c.if-image-image_size.false ∙ c.image_size.ensures) in
-      idle_lost args.state args.image.now inside whole (sym c.is_lost.ensures ∙ c.if-is_lost.true),
-  refl,
-)
+returns-then-is_lost c =
+    let cells = c.in_ok-cells.ensures.ok in
+    idle_lost c.args.state c.args.image.now cells.0 cells.1 (sym c.is_lost.ensures ∙ c.if-is_lost.true)
 
-pub returns-then-out-ne-NONE : goal.returns-then-out-ne-NONE
-unfolding reply scan_of
-returns-then-out-ne-NONE c = (
-  let args = c.args in
-      let inside = sym c.beyond.ensures ∙ c.if-beyond.false in
-      let whole = image_whole args.state args.image.now (state_bounds args.state inside) (c.if-image-image_size.false ∙ c.image_size.ensures) in
-      idle_out args.state args.image.now inside whole (sym c.is_lost.ensures ∙ c.if-is_lost.false) c.if-out-ne-NONE.true,
-  refl,
-)
+pub returns-then-state-ne-NONE : goal.returns-then-state-ne-NONE
+returns-then-state-ne-NONE c =
+    let cells = c.in_ok-cells.ensures.ok in
+    idle_out c.args.state c.args.image.now cells.0 cells.1 (sym c.is_lost.ensures ∙ c.if-is_lost.false) c.if-state-ne-NONE.true
 
 pub returns : goal.returns
-unfolding reply scan_of
-returns c = (
-  let args = c.args in
-      let inside = sym c.beyond.ensures ∙ c.if-beyond.false in
-      let whole = image_whole args.state args.image.now (state_bounds args.state inside) (c.if-image-image_size.false ∙ c.image_size.ensures) in
-      c.scan_but.ensures.0
-      ∙ idle_all args.state args.image.now inside whole (sym c.is_lost.ensures ∙ c.if-is_lost.false) c.if-out-ne-NONE.false,
-  c.scan_but.ensures.1,
-)
+returns c =
+    let args = c.args in
+    let cells = c.in_ok-cells.ensures.ok in
+    c.scan.ensures
+    ∙ rw (cells.2.0, cells.2.1, cells.2.2, cells.2.3) (look_all args.state args.image.now (among no_stripes) cells.0 cells.1)
+    ∙ idle_all args.state args.image.now cells.0 cells.1 (sym c.is_lost.ensures ∙ c.if-is_lost.false) c.if-state-ne-NONE.false

@@ -1,44 +1,17 @@
--- `parity::scan_but` meets its contract: refusals 1 and 2, and then what the look at all stripes answers.
+-- `parity::scan_but` meets its contract: refusals 1 and 2, and then what the scan of the cells answers.
 -- Assumes nothing.
-use mathlib.Core.Path.{refl, sym, ◌∙◌}
+use mathlib.Core.Path.{◌∙◌}
+use Rattle.std.proofs.lemmas.Result.{err_from_is_err_and}
 use Rattle.terms.specs.Lists.{among}
-use Rattle.geometry.proofs.States.{state_bounds}
-use Rattle.parity.specs.Scan.{reply, scan_of}
-use Rattle.parity.proofs.Inside.{image_whole, image_not_whole, fitting}
-use Rattle.parity.proofs.Replies.{look_beyond, look_length, look_all}
+use Rattle.parity.proofs.Replies.{look_refused, look_all}
 use Rattle.parity.proofs.scan_but.Goals as goal
 
-pub returns-then-beyond : goal.returns-then-beyond
-unfolding reply scan_of
-returns-then-beyond c = (
-  let args = c.args in
-      look_beyond args.state args.image.now (among args.skip) (sym c.beyond.ensures ∙ c.if-beyond.true),
-  refl,
-)
-
-pub returns-then-image-image_size : goal.returns-then-image-image_size
-unfolding reply scan_of
-returns-then-image-image_size c = (
-  let args = c.args in
-      let inside = sym c.beyond.ensures ∙ c.if-beyond.false in
-      look_length args.state args.image.now (among args.skip) inside
-      (image_not_whole args.state args.image.now (state_bounds args.state inside) (λ q. c.if-image-image_size.true (q ∙ sym c.image_size.ensures))),
-  refl,
-)
-
-pub look-requires : goal.look-requires
-look-requires c =
-    let args = c.args in
-    fitting args.state args.image.now (state_bounds args.state (sym c.beyond.ensures ∙ c.if-beyond.false))
-    (c.if-image-image_size.false ∙ c.image_size.ensures)
+pub returns-in_err-new : goal.returns-in_err-new
+returns-in_err-new c =
+    let p = err_from_is_err_and c.from_residual.result c.from_residual.ensures.1 in
+    rw (p.1, p.2) (look_refused c.args.state c.args.image.now (among c.args.skip) _ c.in_err-new.ensures.err)
 
 pub returns : goal.returns
-unfolding reply scan_of
-returns c = (
-  let args = c.args in
-      let inside = sym c.beyond.ensures ∙ c.if-beyond.false in
-      c.look.ensures.0
-      ∙ look_all args.state args.image.now (among args.skip) inside
-      (image_whole args.state args.image.now (state_bounds args.state inside) (c.if-image-image_size.false ∙ c.image_size.ensures)),
-  c.look.ensures.1,
-)
+returns c =
+    let cells = c.in_ok-new.ensures.ok in
+    c.scan.ensures ∙ rw (cells.2.0, cells.2.1, cells.2.2, cells.2.3) (look_all c.args.state c.args.image.now (among c.args.skip) cells.0 cells.1)

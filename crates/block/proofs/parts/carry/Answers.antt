@@ -1,30 +1,21 @@
--- `carry` meets its contract: where a part has no room the first four returns leave dst, and else the copy fills the part.
+-- `carry` meets its contract: the one part is copied to the other where both are there, and else dst is as it was.
 -- Assumes nothing.
-use native.Mathlib.Omega.{arith}
+use mathlib.Core.Path.{sym, ◌∙◌}
 use Rattle.block.proofs.Carried.{carried_no_room, carried_no_source, carried_copied}
 use Rattle.block.proofs.parts.carry.Goals as goal
+use Rattle.block.proofs.parts.carry.Goals.{else-has_part-via-then-has_part+else-has_part-2, else-has_part-via-else-has_part}
 
-pub returns-then-dst-size : goal.returns-then-dst-size
-returns-then-dst-size c =
+pub returns-then-has_part-2 : goal.returns-then-has_part-2
+returns-then-has_part-2 c =
     let a = c.args in
-    carried_no_room a.dst.now a.at a.src.now a.from a.size (omega arith)
+    carried_copied a.dst.now a.at a.src.now a.from a.size (sym c.has_part.ensures ∙ c.if-has_part.true)
+    (sym c.has_part-then-has_part.ensures ∙ c.if-has_part-2.true) _ c.copy_from_slice.ensures.after
 
-pub returns-then-dst-size-2 : goal.returns-then-dst-size-2
-returns-then-dst-size-2 c =
+pub returns-else-has_part : goal.returns-else-has_part
+returns-else-has_part c =
     let a = c.args in
-    carried_no_room a.dst.now a.at a.src.now a.from a.size (omega arith)
-
-pub returns-then-src-size : goal.returns-then-src-size
-returns-then-src-size c =
-    let a = c.args in
-    carried_no_source a.dst.now a.at a.src.now a.from a.size (omega arith)
-
-pub returns-then-src-size-2 : goal.returns-then-src-size-2
-returns-then-src-size-2 c =
-    let a = c.args in
-    carried_no_source a.dst.now a.at a.src.now a.from a.size (omega arith)
-
-pub returns : goal.returns
-returns c =
-    let a = c.args in
-    carried_copied a.dst.now a.at a.src.now a.from a.size (omega arith) (omega arith) _ c.copy.ensures
+    elim c.else-has_part.branch [
+      | else-has_part-via-then-has_part+else-has_part-2 w ↦
+          carried_no_source a.dst.now a.at a.src.now a.from a.size (sym w.has_part-then-has_part.ensures ∙ w.if-has_part-2.false)
+      | else-has_part-via-else-has_part w ↦ carried_no_room a.dst.now a.at a.src.now a.from a.size (sym c.has_part.ensures ∙ w.if-has_part.false)
+    ]

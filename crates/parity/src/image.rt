@@ -1,0 +1,156 @@
+// The blocks of an array's cards as they lie in its image, and where the parity of its stripes disagrees.
+// Assumes nothing.
+ghost use Rattle.std.specs.Prelude.{true, false, ◌≡◌, ◌≢◌, ℕ, ◌+◌, ◌-◌, ◌^◌, ◌≤◌, ◌<◌, length, slice_index, MatchOption, IfOk, IfErr};
+ghost use Rattle.block.specs.Blocks.{summed, zeros, all_zero};
+ghost use Rattle.geometry.specs.Limits.{beyond_state};
+ghost use Rattle.geometry.specs.Store.{image_wrong, legal_state};
+ghost use Rattle.parity.specs.Fitting.{Fitting, LiesIn, beside, image_refusal};
+ghost use Rattle.parity.specs.Parity.{cell, wrong_byte, looked};
+ghost use Rattle.terms.specs.Lists.{among};
+ghost use Rattle.terms.specs.Reply.{refused, refusal_reply, done_reply};
+
+use geometry::State;
+use terms::Refusal;
+
+// An image that is as long as the numbers of its array say. Whoever makes one has tested once, for all blocks, what geometry's `cell` tests at each.
+#[derive(Clone, Copy)]
+pub(crate) struct Cells<'a> {
+    image: &'a [u8],
+    cards: usize,
+    stripes: usize,
+    size: usize,
+    ghost cards_low: { 3 ≤ cards },
+    ghost fitting: { Fitting cards stripes size image.now },
+}
+
+impl<'a> Cells<'a> {
+    // The cells of an image of an array whose numbers are within their limits; none where it is of another length.
+    pub(crate) fn whole(state: State, image: &'a [u8]) -> Option<Self>
+        requires { legal_state state ≡ true }
+        ensures { MatchOption result (image_wrong state image.now ≡ true) (λ c. (image_wrong state image.now ≡ false) × LiesIn state image.now c.cards c.stripes c.size c.image.now) }
+    {
+        if image.len() != state.image_size() {
+            return None;
+        }
+        Some(Cells {
+            image,
+            cards: state.cards as usize,
+            stripes: state.stripes as usize,
+            size: state.block as usize,
+        })
+    }
+
+    // The cells of any array's image. Refusals 1 and 2.
+    pub(crate) fn new(state: State, image: &'a [u8]) -> Result<Self, Refusal>
+        ensures ok { IfOk result (λ c. (beyond_state state ≡ false) × (image_wrong state image.now ≡ false) × LiesIn state image.now c.cards c.stripes c.size c.image.now) }
+        ensures err { IfErr result (λ r. refusal_reply r ≡ refused (image_refusal state image.now)) }
+    {
+        if state.beyond() {
+            return Err(Refusal::BeyondLimits);
+        }
+        Cells::whole(state, image).ok_or(Refusal::WrongLength)
+    }
+
+    // The block of a card in a stripe: a part of the image that starts in its middle.
+    fn cell(self, stripe: usize, card: usize) -> &'a [u8]
+        requires { (stripe < self.stripes) × (card < self.cards) }
+        ensures { result.now ≡ cell self.entry.stripes self.entry.size self.entry.image.now stripe card }
+    {
+        let a = (card * self.stripes + stripe) * self.size;
+        let e = a + self.size;
+        &self.image[a..e]
+    }
+
+    // Adds the blocks of the first N cards beside one in a stripe to the sum, all in one pass, and tells whether its bytes there are all zero. The
+    // inner loop has a number of turns that the compiler knows, and there is no way out of the outer one, which vectorises.
+    fn add_beside<const N: usize>(self, sum: &mut [u8; 512], stripe: usize, but: usize) -> bool
+        requires { (stripe < self.stripes) × (N ≤ self.cards) × (but < self.cards → N < self.cards) }
+        ensures { (sum.new ≡ summed N (λ k. cell self.entry.stripes self.entry.size self.entry.image.now stripe (beside but k)) sum.old) × (result ≡ all_zero self.entry.size sum.new) }
+    {
+        let mut any: u8 = 0;
+        for i in 0..self.size {
+            let mut byte = sum[i];
+            for k in 0..N {
+                byte ^= self.cell(stripe, beside(but, k))[i];
+            }
+            sum[i] = byte;
+            any |= byte;
+        }
+        any == 0
+    }
+
+    // Adds the blocks of all cards but one in a stripe to the sum.
+    pub(crate) fn add_others(self, sum: &mut [u8; 512], stripe: usize, but: usize)
+        requires { (stripe < self.stripes) × (but < self.cards) }
+        ensures { sum.new ≡ summed (self.entry.cards - 1) (λ k. cell self.entry.stripes self.entry.size self.entry.image.now stripe (beside but k)) sum.old }
+    {
+        match self.cards {
+            3 => self.add_beside::<2>(sum, stripe, but),
+            4 => self.add_beside::<3>(sum, stripe, but),
+            5 => self.add_beside::<4>(sum, stripe, but),
+            6 => self.add_beside::<5>(sum, stripe, but),
+            7 => self.add_beside::<6>(sum, stripe, but),
+            _ => self.add_beside::<7>(sum, stripe, but),
+        };
+    }
+
+    // The lowest byte of a stripe where parity disagrees. The sum has zero bytes, and where there is none it has them again.
+    fn wrong_byte<const N: usize>(self, sum: &mut [u8; 512], stripe: usize) -> Option<usize>
+        requires { (stripe < self.stripes) × (N ≡ self.cards) × (sum.old ≡ zeros 512) }
+        ensures { MatchOption result ((wrong_byte self.entry.cards self.entry.stripes self.entry.size self.entry.image.now stripe ≡ self.entry.size) × (sum.new ≡ zeros 512)) (λ b. (b < self.entry.size) × (wrong_byte self.entry.cards self.entry.stripes self.entry.size self.entry.image.now stripe ≡ b)) }
+    {
+        // beside the card after the last are all of them
+        if self.add_beside::<N>(sum, stripe, N) {
+            return None;
+        }
+        first_nonzero(&sum[..self.size])
+    }
+
+    // The lowest stripe that is not passed over, and the lowest byte in it, where parity disagrees: stripes ascending, bytes ascending. One sum
+    // serves all stripes: where a stripe is right, it is again the 512 zero bytes that the next one starts from.
+    fn scan_all<const N: usize>(self, skip: [u64; 8]) -> Result<(), Refusal>
+        requires { N ≡ self.cards }
+        ensures { done_reply result ≡ looked self.entry.cards self.entry.stripes self.entry.size self.entry.image.now (among skip) }
+    {
+        let mut sum = [0u8; 512];
+        for stripe in 0..self.stripes {
+            if skip.contains(&(stripe as u64)) {
+                continue;
+            }
+            if let Some(byte) = self.wrong_byte::<N>(&mut sum, stripe) {
+                let (stripe, byte) = (stripe as u64, byte as u64);
+                return Err(Refusal::ParityDisagrees { stripe, byte });
+            }
+        }
+        Ok(())
+    }
+
+    // The same, by the number of the cards: a loop for each of them, which has nothing to test at a stripe.
+    pub(crate) fn scan(self, skip: [u64; 8]) -> Result<(), Refusal>
+        ensures { done_reply result ≡ looked self.entry.cards self.entry.stripes self.entry.size self.entry.image.now (among skip) }
+    {
+        match self.cards {
+            3 => self.scan_all::<3>(skip),
+            4 => self.scan_all::<4>(skip),
+            5 => self.scan_all::<5>(skip),
+            6 => self.scan_all::<6>(skip),
+            7 => self.scan_all::<7>(skip),
+            _ => self.scan_all::<8>(skip),
+        }
+    }
+}
+
+// The k-th card beside one, ascending.
+fn beside(card: usize, k: usize) -> usize
+    requires { k + 1 < 2 ^ 64 }
+    ensures { result ≡ beside card k }
+{
+    if k < card { k } else { k + 1 }
+}
+
+// The place of the first byte that is not zero.
+fn first_nonzero(bytes: &[u8]) -> Option<usize>
+    ensures { MatchOption result ((k : ℕ) → k < length bytes.now → slice_index bytes.now k ≡ 0) (λ b. (b < length bytes.now) × (slice_index bytes.now b ≢ 0) × ((k : ℕ) → k < b → slice_index bytes.now k ≡ 0)) }
+{
+    bytes.iter().position(|byte| *byte != 0)
+}
