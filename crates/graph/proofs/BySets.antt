@@ -1,15 +1,18 @@
 -- The sets of positions that a graph is to read and to write, and of new units that its exclusive or takes, graph by graph.
 -- Assumes nothing.
-use Prim.Native.Nat.{ℕ, ◌+◌, ◌-◌, ◌^◌}
-use mathlib.Core.Bool.{Bool, false, ◌||◌}
+use Prim.Native.Nat.{ℕ, ◌+◌, ◌-◌, ◌*◌, ◌%◌, ◌^◌, ◌≤◌, ◌<◌}
+use mathlib.Core.Bool.{Bool, false, cond, not, ◌||◌}
 use mathlib.Core.Path.{◌≡◌, refl, sym, ap, ◌∙◌}
+use lib.Bits.{bit_and}
 use lib.Dec.{leb, eqb}
+use Rattle.terms.proofs.Bits.{set_of_bound}
 use Rattle.terms.specs.Sets.{set_of}
-use Rattle.graph.specs.Steps.{by_graph, masked, unmasked, read_base, write_base}
+use Rattle.graph.specs.Asked.{step_set}
+use Rattle.graph.specs.Steps.{by_graph, masked, unmasked, read_base, reads, sums, write_base, writes}
 use Rattle.graph.specs.Sums.{takes_new}
 use Rattle.graph.proofs.Graphs.{Graph, plain, degraded, small, reconstruct, large, failed, nought, above, graph, by_graph_above}
-use Rattle.graph.proofs.Positions.{all_positions}
-use Rattle.graph.proofs.Rules.{set_of_none, set_of_cong}
+use Rattle.graph.proofs.Positions.{all_positions, steps_are, joined_low, joined_shift, joined_fits}
+use Rattle.graph.proofs.Rules.{set_of_none, set_of_and}
 
 -- a set made by the graph's rule is the graph's set
 module _ (n : ℕ) (a1 a2 a3 a4 a5 a6 : ℕ → Bool) where
@@ -54,3 +57,33 @@ module _ (n g mask : ℕ) where
   news_sets =
       set_by (n + 1) (λ p. false) (λ p. false) (masked n mask) (masked n mask) (masked n mask) (λ p. false) g (graph g)
       ∙ rw (none (n + 1))
+
+-- ---- the graph's sets, made of those: without the missing position, and joined; with at most 7 units all fit a word
+
+module _ (n g mask x : ℕ) (few : n ≤ 7) (to_read to_write sum present : ℕ)
+    (r : to_read ≡ set_of (n + 1) (read_base n g mask))
+    (w : to_write ≡ set_of (n + 1) (write_base n g mask))
+    (s : sum ≡ cond (sums g) (2 ^ (n + 1)) 0)
+    (p : present ≡ set_of (n + 1) (λ i. not (eqb i x)))
+  where
+    pub reads_made : bit_and to_read present ≡ set_of (n + 1) (reads n g mask x)
+    unfolding reads
+    reads_made = rw (r, p) (set_of_and (n + 1) (read_base n g mask) (λ i. not (eqb i x)))
+
+    writes_made : bit_and to_write present ≡ set_of (n + 1) (writes n g mask x)
+    unfolding writes
+    writes_made = rw (w, p) (set_of_and (n + 1) (write_base n g mask) (λ i. not (eqb i x)))
+
+    pub low_fits : bit_and to_read present + sum < 2 ^ 9
+    low_fits = rw (reads_made, s) (joined_low n _ 0 (sums g) few (set_of_bound (n + 1) (reads n g mask x)))
+
+    pub steps_fit : bit_and to_write present * 2 ^ (n + 2) % 18446744073709551616 + (bit_and to_read present + sum) < 2 ^ 17
+    steps_fit =
+        let b = set_of_bound (n + 1) (writes n g mask x) in
+        rw (writes_made, reads_made, s, joined_shift n 0 _ (sums g) few b)
+        (joined_fits n _ _ (sums g) few (set_of_bound (n + 1) (reads n g mask x)) b)
+
+    pub steps_made : bit_and to_write present * 2 ^ (n + 2) % 18446744073709551616 + (bit_and to_read present + sum) ≡ step_set n g mask x
+    steps_made =
+        let b = set_of_bound (n + 1) (writes n g mask x) in
+        rw (writes_made, reads_made, s, joined_shift n 0 _ (sums g) few b) (steps_are n g mask x)

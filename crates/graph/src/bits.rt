@@ -20,6 +20,7 @@ pub fn part_of(a: u64, b: u64) -> bool
 }
 
 // The set of k alone.
+#[tactic(auto, using(crate::proofs::Shifts::one_shl))]
 pub(crate) fn only(k: u64) -> u64
     requires { k ≤ 63 }
     ensures { result ≡ 2 ^ k }
@@ -28,6 +29,7 @@ pub(crate) fn only(k: u64) -> u64
 }
 
 // The set of all numbers below n.
+#[tactic(auto, using(crate::proofs::Shifts::one_shl, crate::proofs::Shifts::one_shl_pos))]
 pub(crate) fn below(n: u64) -> u64
     requires { n ≤ 63 }
     ensures { result ≡ 2 ^ n - 1 }

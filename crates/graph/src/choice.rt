@@ -26,6 +26,7 @@ fn unit_out_in(n: u64, mask: u64, x: u64) -> bool
     x < n && has(x, mask)
 }
 
+#[tactic(auto, unfolding(crate::specs::Choice::choose_read, terms::specs::Reply::first_row))]
 fn choose_read(n: u64, mask: u64, x: u64) -> Graph
     ensures { number_of_graph result ≡ choose_read n mask x }
 {
@@ -36,6 +37,7 @@ fn choose_read(n: u64, mask: u64, x: u64) -> Graph
 }
 
 // The tests in the paper's order; the count of ones decides small against reconstruct write.
+#[tactic(auto, unfolding(crate::specs::Choice::choose_write, crate::specs::Choice::unit_out, terms::specs::Reply::first_row))]
 fn choose_write(n: u64, mask: u64, x: u64) -> Graph
     ensures { number_of_graph result ≡ choose_write n mask x }
 {
@@ -58,6 +60,7 @@ fn choose_write(n: u64, mask: u64, x: u64) -> Graph
 }
 
 // The graph that the table chooses.
+#[tactic(auto, unfolding(crate::specs::Choice::choose))]
 pub fn choose(n: u64, write: bool, mask: u64, x: u64) -> Graph
     ensures { number_of_graph result ≡ choose n write mask x }
 {

@@ -1,6 +1,6 @@
 // The order of a graph's steps, and done sets.
 ghost use Rattle.std.specs.Prelude.{true, ◌&&◌, ◌||◌, ◌≡◌, ◌≤◌, eqb};
-ghost use Rattle.graph.specs.Asked.{few_units, action_step, part_of, needed_by, ready_by, in_order_by};
+ghost use Rattle.graph.specs.Asked.{few_units, action_step, part_of, needed_by, ready_by, written, in_order_by};
 ghost use Rattle.graph.specs.Steps.{wr, by_graph};
 
 use crate::bits::{below, has, only, part_of};
@@ -59,12 +59,14 @@ pub fn ready_by(
 impl Few {
     // What comes before the done writes of units is done: in graph 3 each has its own read, and in graph 4 all the reads.
     #[tactic(auto, unfolding(crate::specs::Steps::by_graph))]
-    fn writes_in_order(self, done: u64, written: u64, all_read: bool) -> bool
-        ensures { result ≡ by_graph self.plan.graph true true (part_of written done) (eqb written 0 || all_read) true true true }
+    fn writes_in_order(self, done: u64, reading: u64) -> bool
+        ensures { result ≡ by_graph self.plan.graph true true (part_of (written self.plan.units done) done) (eqb (written self.plan.units done) 0 || part_of reading done) true true true }
     {
+        let n = self.plan.units;
+        let written = (done >> (n + 2)) & below(n);
         match Graph::try_from(self.plan.graph) {
             Ok(Graph::SmallWrite) => part_of(written, done),
-            Ok(Graph::ReconstructWrite) => written == 0 || all_read,
+            Ok(Graph::ReconstructWrite) => written == 0 || part_of(reading, done),
             _ => true,
         }
     }
@@ -75,13 +77,10 @@ impl Few {
     pub(crate) fn in_order(self, done: u64, reading: u64, whole: u64) -> bool
         ensures { result ≡ in_order_by self.plan.units self.plan.graph reading whole done }
     {
-        let n = self.plan.units;
-        let summed = has(n + 1, done);
-        let all_read = part_of(reading, done);
-        let written = (done >> (n + 2)) & below(n);
+        let sum = self.plan.units + 1;
         part_of(done, whole)
-            && (!summed || all_read)
-            && (!has(2 * n + 2, done) || summed)
-            && self.writes_in_order(done, written, all_read)
+            && (!has(sum, done) || part_of(reading, done))
+            && (!has(2 * sum, done) || has(sum, done))
+            && self.writes_in_order(done, reading)
     }
 }

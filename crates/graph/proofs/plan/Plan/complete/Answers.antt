@@ -7,4 +7,4 @@ pub returns : goal.returns
 returns c =
     let few = c.in-Some.ensures in
     let p = c.in-Some.few.plan in
-    rw (few.0, ← few.1, c.part_of.ensures, c.step_set.ensures) (complete_test p.units p.graph p.mask p.missing c.args.done)
+    rw (few.0, ← few.1, c.part_of.ensures, c.sets.ensures.steps) (complete_test p.units p.graph p.mask p.missing c.args.done)

@@ -13,5 +13,5 @@ returns c =
     rw (← few.1)
     ((rw (← few.1) at c.ready_by.ensures)
     ∙ ap (◌&&◌ (few_units p.units))
-    (ready_of p.units p.graph p.mask p.missing c.args.done c.args.k c.step_set.result c.read_set.result (action_step c.step_of-action.result)
-    c.step_set.ensures c.read_set.ensures (rw (← few.1) at c.step_of-action.ensures)))
+    (ready_of p.units p.graph p.mask p.missing c.args.done c.args.k _ _ (action_step c.step_of-action.result)
+    c.sets-reads.ensures.steps c.sets-reads.ensures.reads (rw (← few.1) at c.step_of-action.ensures)))

@@ -11,6 +11,3 @@ overflow_add-result c =
     let a = c.args.self.plan in
     let few : 2 ^ a.units ≤ 2 ^ 7 = pow_mono c.args.self.few in
     record { fits = omega (arith, c.masked_set.ensures, c.only.ensures, masked_bound a.units a.mask) }
-
-pub returns : goal.returns
-returns c = rw (c.masked_set.ensures, c.only.ensures) (masked_and_parity_is c.args.self.plan.units c.args.self.plan.mask)
