@@ -6,22 +6,6 @@ use Rattle.geometry.specs.Limits.{none, beyond_state, is_lost}
 use Rattle.geometry.specs.Store.{image_wrong}
 use Rattle.geometry.specs.declared.State.{State}
 use Rattle.parity.specs.Parity.{right_parity, disagreement}
-use Rattle.parity.specs.declared.Scan.{Scan}
-use Rattle.parity.specs.declared.Scan.TheVariants.{Right, Disagrees, Refused}
-
--- a scan's answer by 01's numbers: 0, or 13 with the stripe and the byte, or another refusal
-unfoldable pub reply : Scan → Reply
-reply Right = accepted 0 0
-reply (Disagrees s b) = record { number = 13; first = s; second = b }
-reply (Refused k) = refused k
-
--- the answer that has a reply
-unfoldable pub scan_of : Reply → Scan
-scan_of r = cond (eqb r.number 0) Right (cond (eqb r.number 13) (Disagrees r.first r.second) (Refused r.number))
-
--- an answer is the one that its reply names: `Refused` never has the number of another case
-abbrev pub Named : Scan → Type 0
-Named a = scan_of (reply a) ≡ a
 
 -- 1, 2 and 13, with some stripes passed over: what an open array's scan and opening ask
 unfoldable pub look_refusal : State → List ℕ → (ℕ → Bool) → ℕ

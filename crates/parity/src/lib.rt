@@ -11,17 +11,11 @@ ghost use Rattle.block.specs.Blocks.{summed, zeros, all_zero};
 ghost use Rattle.parity.specs.Fitting.{Fitting, EightLong, LastZero, eight};
 ghost use Rattle.parity.specs.Parity.{cell, cell_or_none, looked};
 ghost use Rattle.terms.specs.Lists.{among};
-ghost use Rattle.parity.specs.Scan.{Named, reply, look_reply, idle_scan_reply};
+ghost use Rattle.parity.specs.Scan.{look_reply, idle_scan_reply};
+ghost use Rattle.terms.specs.Reply.{done_reply};
 
 use geometry::{NO_STRIPE, NONE, State};
-
-// What a scan answers: parity is right; refused by 13, with the lowest stripe and the lowest byte in it where parity disagrees; or refused.
-#[derive(Clone, Copy)]
-pub enum Scan {
-    Right,
-    Disagrees { stripe: u64, byte: u64 },
-    Refused(u64),
-}
+use terms::Refusal;
 
 // The block of a card in a stripe: a part of the image that starts in its middle. Whoever calls it has tested once, for all blocks, what
 // geometry's `cell` tests at each.
@@ -139,9 +133,9 @@ fn is_passed(skip: [u64; 8], stripe: u64) -> bool
 
 // The lowest stripe that is not passed over, and the lowest byte in it, where parity disagrees: stripes ascending, bytes ascending. One sum
 // serves all stripes: where a stripe's sum is zero, it is again the 512 zero bytes that the next one starts from.
-fn look(image: &[u8], cards: usize, stripes: usize, size: usize, skip: [u64; 8]) -> Scan
+fn look(image: &[u8], cards: usize, stripes: usize, size: usize, skip: [u64; 8]) -> Result<(), Refusal>
     requires { Fitting cards stripes size image.now }
-    ensures { (reply result ≡ looked cards stripes size image.now (among skip)) × Named result }
+    ensures { done_reply result ≡ looked cards stripes size image.now (among skip) }
 {
     let none = [0u8; 512];
     let mut sum = [0u8; 512];
@@ -162,23 +156,23 @@ fn look(image: &[u8], cards: usize, stripes: usize, size: usize, skip: [u64; 8])
         stripe += 1;
     }
     if stripe == stripes {
-        return Scan::Right;
+        return Ok(());
     }
-    Scan::Disagrees {
+    Err(Refusal::ParityDisagrees {
         stripe: stripe as u64,
         byte: byte as u64,
-    }
+    })
 }
 
 // The parity of all stripes but those that are passed over. Refusals 1, 2 and 13.
-pub fn scan_but(state: State, image: &[u8], skip: [u64; 8]) -> Scan
-    ensures { (reply result ≡ look_reply state image.now (among skip)) × Named result }
+pub fn scan_but(state: State, image: &[u8], skip: [u64; 8]) -> Result<(), Refusal>
+    ensures { done_reply result ≡ look_reply state image.now (among skip) }
 {
     if state.beyond() {
-        return Scan::Refused(1);
+        return Err(Refusal::BeyondLimits);
     }
     if image.len() != state.image_size() {
-        return Scan::Refused(2);
+        return Err(Refusal::WrongLength);
     }
     let cards = state.cards as usize;
     let stripes = state.stripes as usize;
@@ -187,21 +181,21 @@ pub fn scan_but(state: State, image: &[u8], skip: [u64; 8]) -> Scan
 }
 
 // The scan of an array with nothing open. Refusals 1, 2, 4, 12 and 13.
-pub fn idle_scan(state: State, image: &[u8]) -> Scan
-    ensures { (reply result ≡ idle_scan_reply state image.now) × Named result }
+pub fn idle_scan(state: State, image: &[u8]) -> Result<(), Refusal>
+    ensures { done_reply result ≡ idle_scan_reply state image.now }
 {
     if state.beyond() {
-        return Scan::Refused(1);
+        return Err(Refusal::BeyondLimits);
     }
     if image.len() != state.image_size() {
-        return Scan::Refused(2);
+        return Err(Refusal::WrongLength);
     }
     if state.is_lost() {
-        return Scan::Refused(4);
+        return Err(Refusal::ArrayLost);
     }
     let out = state.out;
     if out != NONE {
-        return Scan::Refused(12);
+        return Err(Refusal::CardOut);
     }
     scan_but(state, image, [NO_STRIPE; 8])
 }

@@ -2,56 +2,45 @@
 -- Assumes nothing.
 use mathlib.Core.Path.{refl, sym, ◌∙◌}
 use Rattle.geometry.proofs.States.{state_bounds}
-use Rattle.parity.specs.Scan.{reply, scan_of}
 use Rattle.parity.proofs.Inside.{image_whole, image_not_whole}
 use Rattle.parity.proofs.Replies.{idle_beyond, idle_length, idle_lost, idle_out, idle_all}
 use Rattle.parity.proofs.idle_scan.Goals as goal
 
 pub returns-then-beyond : goal.returns-then-beyond
-unfolding reply scan_of
-returns-then-beyond c = (
+returns-then-beyond c =
   let args = c.args in
-      idle_beyond args.state args.image.now (sym c.beyond.ensures ∙ c.if-beyond.true),
-  refl,
-)
+      idle_beyond args.state args.image.now (sym c.beyond.ensures ∙ c.if-beyond.true)
+
 
 pub returns-then-image-image_size : goal.returns-then-image-image_size
-unfolding reply scan_of
-returns-then-image-image_size c = (
+returns-then-image-image_size c =
   let args = c.args in
       let inside = sym c.beyond.ensures ∙ c.if-beyond.false in
       idle_length args.state args.image.now inside
-      (image_not_whole args.state args.image.now (state_bounds args.state inside) (λ q. c.if-image-image_size.true (q ∙ sym c.image_size.ensures))),
-  refl,
-)
+      (image_not_whole args.state args.image.now (state_bounds args.state inside) (λ q. c.if-image-image_size.true (q ∙ sym c.image_size.ensures)))
+
 
 pub returns-then-is_lost : goal.returns-then-is_lost
-unfolding reply scan_of
-returns-then-is_lost c = (
+returns-then-is_lost c =
   let args = c.args in
       let inside = sym c.beyond.ensures ∙ c.if-beyond.false in
       let whole = image_whole args.state args.image.now (state_bounds args.state inside) (c.if-image-image_size.false ∙ c.image_size.ensures) in
-      idle_lost args.state args.image.now inside whole (sym c.is_lost.ensures ∙ c.if-is_lost.true),
-  refl,
-)
+      idle_lost args.state args.image.now inside whole (sym c.is_lost.ensures ∙ c.if-is_lost.true)
+
 
 pub returns-then-out-ne-NONE : goal.returns-then-out-ne-NONE
-unfolding reply scan_of
-returns-then-out-ne-NONE c = (
+returns-then-out-ne-NONE c =
   let args = c.args in
       let inside = sym c.beyond.ensures ∙ c.if-beyond.false in
       let whole = image_whole args.state args.image.now (state_bounds args.state inside) (c.if-image-image_size.false ∙ c.image_size.ensures) in
-      idle_out args.state args.image.now inside whole (sym c.is_lost.ensures ∙ c.if-is_lost.false) c.if-out-ne-NONE.true,
-  refl,
-)
+      idle_out args.state args.image.now inside whole (sym c.is_lost.ensures ∙ c.if-is_lost.false) c.if-out-ne-NONE.true
+
 
 pub returns : goal.returns
-unfolding reply scan_of
-returns c = (
+returns c =
   let args = c.args in
       let inside = sym c.beyond.ensures ∙ c.if-beyond.false in
       let whole = image_whole args.state args.image.now (state_bounds args.state inside) (c.if-image-image_size.false ∙ c.image_size.ensures) in
-      c.scan_but.ensures.0
-      ∙ idle_all args.state args.image.now inside whole (sym c.is_lost.ensures ∙ c.if-is_lost.false) c.if-out-ne-NONE.false,
-  c.scan_but.ensures.1,
-)
+      c.scan_but.ensures
+      ∙ idle_all args.state args.image.now inside whole (sym c.is_lost.ensures ∙ c.if-is_lost.false) c.if-out-ne-NONE.false
+

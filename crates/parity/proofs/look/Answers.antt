@@ -9,7 +9,6 @@ use native.Mathlib.Omega.{arith}
 use borrow.Author.Count.{below_none, below_more}
 use borrow.Author.Rules.{rules}
 use Rattle.block.specs.Blocks.{zeros}
-use Rattle.parity.specs.Scan.{reply, scan_of}
 use Rattle.parity.proofs.Found.{Looking, wrong_in, reports, reports_passed, sum_right, sum_clear, sum_wrong, sum_wrong_byte, looked_right, looked_wrong}
 use Rattle.parity.proofs.look.Invariants.{looking}
 use Rattle.parity.proofs.look.Goals as goal
@@ -53,19 +52,15 @@ scan-preserved c =
     (search rules, below_more _ _ at.invariant.1 fine.0, fine.1)
 
 pub returns-then-stripe-stripes : goal.returns-then-stripe-stripes
-unfolding reply scan_of
 returns-then-stripe-stripes c =
-    let at_start : Looking = looking c.args.cards c.args.stripes c.args.size c.args.image.now c.args.skip in (
-      looked_right at_start
-          (λ j h. c.scan.invariant.1 j (omega (arith, c.if-stripe-stripes.true))),
-      refl,
-    )
+    let at_start : Looking = looking c.args.cards c.args.stripes c.args.size c.args.image.now c.args.skip in
+    looked_right at_start
+          (λ j h. c.scan.invariant.1 j (omega (arith, c.if-stripe-stripes.true)))
 
 pub returns : goal.returns
-unfolding reply scan_of
 returns c =
     let at_start : Looking = looking c.args.cards c.args.stripes c.args.size c.args.image.now c.args.skip in
-    let at = c.scan in (
+    let at = c.scan in
       elim c.scan-test.branch [
         | else-scan-test w ↦ absurd (c.if-stripe-stripes.false (omega (arith, at.invariant.0, w.scan-test.false)))
         | then-scan-test+then-not-is_passed+then-not-add_cards+then-loop-byte-test+then-sum-byte-ne0 w ↦
@@ -77,6 +72,4 @@ returns c =
             (sum_wrong at_start c.requires at.stripe w.scan-test.true at.sum w.add_cards.new.sum at.invariant.2 w.add_cards.ensures.0 b
             w.loop-byte-test.true w.if-sum-byte-ne0.true w.loop-byte.invariant.1 (sym w.is_passed.ensures ∙ w.if-not-is_passed.true))
             at.invariant.1 (wrong ∙ sym w.byte-is)
-      ],
-      refl,
-    )
+      ]
