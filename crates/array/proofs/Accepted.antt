@@ -102,6 +102,7 @@ own_sound st v r e = and_right v.sound (sound_record st r) (and_left (v.sound &&
 module _ (st : State) (v : Survey) (r : Record) (work image : List ℕ) (i k : ℕ) where
   -- an accepted step, by what a look at the record finds: it can be done, and the record after it is the paper's
   pub record Stepped (look : Look) : Type 0 where
+    pub limits : beyond_state st ≡ false
     pub standing : Standing st work image i r
     pub x_is : look.x ≡ chosen_at st r
     pub out_is : look.out ≡ missing_in st r.stripe
@@ -123,6 +124,7 @@ module _ (st : State) (v : Survey) (r : Record) (work image : List ℕ) (i k : �
       let sound = own_sound st v r p.is_fine in
       let few = few_units_law st p.limits in
       record {
+        limits = p.limits;
         standing =
             record {
               limits = legal_state_law st p.limits;
@@ -144,9 +146,15 @@ pub afresh_some : (st : State) (r : Record) → ¬ ((afresh st r).graph ≡ 0)
 unfolding afresh
 afresh_some st r = choose_some _ _ _ _
 
+-- the units of a mask can be moved, of record i
+pub record Movable (st : State) (i mask : ℕ) (units work : List ℕ) : Type 0 where
+  pub limits : beyond_state st ≡ false
+  pub below : i < st.records
+  pub keeping : Keeping st mask units work
+
 -- an accepted collect of a read: its units can be handed over
 pub collect_accepted : (st : State) (v : Survey) (r : Record) (work : List ℕ) (i : ℕ) (result : List ℕ) → collect_refusal st v r work i result ≡ 0
-    → is_write r ≡ false → Keeping st i r.mask result work
+    → is_write r ≡ false → Movable st i r.mask result work
 unfolding collect_refusal result_short collect_rows lent_rows giving every Failed
 collect_accepted st v r work i result e reads =
     let tw = table_wrong st v.len in
@@ -157,16 +165,19 @@ collect_accepted st v r work i result e reads =
     let own = failed_second (lent_rows st (tw || ww) (sound_with st v r)) (collect_rows st r i result) f in
     let sound = own_sound st v r p.is_fine in
     record {
-      limits = legal_state_law st p.limits;
-      record_below = leb-false st.records i own.0;
-      units_only = mask_below (units_of st) r.mask (fit st r sound (finished_not_free r (not-false (is_finished r) own.1.0))).mask_legal;
-      work_right = work_length st work (or_false_right tw ww p.lengths);
-      room = ltb-false (length result) (unit_bytes st r.mask) (rw reads at own.1.1.0);
+      limits = p.limits;
+      below = leb-false st.records i own.0;
+      keeping =
+          record {
+            units_only = mask_below (units_of st) r.mask (fit st r sound (finished_not_free r (not-false (is_finished r) own.1.0))).mask_legal;
+            work_right = work_length st work (or_false_right tw ww p.lengths);
+            room = ltb-false (length result) (unit_bytes st r.mask) (rw reads at own.1.1.0);
+          };
     }
 
 -- an accepted admission of a write: its units can be kept
 pub admit_accepted : (st : State) (v : Survey) (work image : List ℕ) (write : Bool) (s mask : ℕ) (payload : List ℕ)
-    → admit_refusal st v work image write s mask payload ≡ 0 → write ≡ true → Keeping st v.free mask payload work
+    → admit_refusal st v work image write s mask payload ≡ 0 → write ≡ true → Movable st v.free mask payload work
 unfolding admit_refusal payload_wrong admit_rows lent_rows giving every Failed
 admit_accepted st v work image write s mask payload e w =
     let iw = image_wrong st image in
@@ -178,9 +189,12 @@ admit_accepted st v work image write s mask payload e w =
     let own = failed_second (lent_rows st (iw || tw || ww) v.sound) (admit_rows st v write s mask payload) f in
     let long : not (eqb (length payload) (unit_bytes st mask)) ≡ false = rw w at own.1.1.0 in
     record {
-      limits = legal_state_law st p.limits;
-      record_below = leb-false st.records v.free own.1.1.1.1.0;
-      units_only = mask_below (units_of st) mask (not-false _ own.1.0);
-      work_right = work_length st work (or_false_right (iw || tw) ww p.lengths);
-      room = omega (arith, eqb-true (length payload) (unit_bytes st mask) (not-false _ long));
+      limits = p.limits;
+      below = leb-false st.records v.free own.1.1.1.1.0;
+      keeping =
+          record {
+            units_only = mask_below (units_of st) mask (not-false _ own.1.0);
+            work_right = work_length st work (or_false_right (iw || tw) ww p.lengths);
+            room = omega (arith, eqb-true (length payload) (unit_bytes st mask) (not-false _ long));
+          };
     }

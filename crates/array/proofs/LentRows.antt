@@ -1,48 +1,48 @@
--- The rows that every call on the table begins with, and then a call's own, as the code meets them.
+-- The rows that every call on the table begins with, and then a call's own, as the code meets them: `?` hands on the refusal of the first ones, and
+-- where they let the call pass its own decide.
 -- Assumes nothing.
-use Prim.Native.Nat.{ℕ, ◌≤◌}
+use Prim.Native.Nat.{◌≤◌}
 use mathlib.Core.Bool.{Bool, true, false}
 use mathlib.Core.List.{List, ◌++◌}
-use mathlib.Core.Logic.{⊎_elim}
-use mathlib.Core.Path.{◌≡◌, refl, sym, ◌∙◌}
+use mathlib.Core.Path.{◌≡◌, refl, sym, ap}
 use native.Mathlib.Omega.{arith}
-use borrow.Author.Tests.{leb-true}
-use lib.Dec.{leb}
 use Rattle.terms.specs.Lists.{every}
-use Rattle.terms.specs.Reply.{Row, first_row}
-use Rattle.terms.proofs.Refusals.{Failed, giving, given, zero_failed, first_row_before, first_row_behind}
+use Rattle.terms.specs.Reply.{Reply, Row, first_row, accepted, refused, refusal_reply}
+use Rattle.terms.specs.declared.refusal.Refusal.{Refusal}
+use Rattle.terms.proofs.Refusals.{Failed, giving, zero_failed, first_row_behind}
 use Rattle.geometry.specs.Limits.{beyond_state}
 use Rattle.geometry.specs.declared.State.{State}
+use Rattle.geometry.proofs.StateRows.{rows_refuse}
+use Rattle.geometry.proofs.States.{state_bounds}
 use Rattle.array.specs.Lent.{lent_rows}
 use Rattle.array.proofs.Lent.{passed_rows}
 
-module _ (st : State) (wrong sound : Bool) where
-  pub beyond_refuses : (own : List Row) → beyond_state st ≡ true → 1 ≡ first_row (lent_rows st wrong sound ++ own)
+module _ (st : State) (wrong sound : Bool) (own : List Row) where
+  -- beyond the limits
+  pub beyond_refuses : beyond_state st ≡ true → first_row (lent_rows st wrong sound ++ own) ≡ 1
   unfolding lent_rows first_row
-  beyond_refuses own e = sym (rw e)
+  beyond_refuses e = rw e
 
-  module _ (first : ℕ) (e : first ≡ first_row (lent_rows st wrong sound)) where
-    -- one of them refuses
-    pub lent_refuses : (own : List Row) → ¬ (first ≡ 0) → first ≡ first_row (lent_rows st wrong sound ++ own)
-    lent_refuses own h = e ∙ sym (first_row_before (lent_rows st wrong sound) own (λ z. h (e ∙ z)))
+  -- one of them refuses
+  pub lent_refuses : (r : Refusal) → refusal_reply r ≡ refused (first_row (lent_rows st wrong sound))
+      → refusal_reply r ≡ refused (first_row (lent_rows st wrong sound ++ own))
+  lent_refuses = rows_refuse (lent_rows st wrong sound) own
 
-    pub lent_small : first ≤ 4
+  -- none does, and the call's own are left
+  module _ (e : accepted 0 0 ≡ refused (first_row (lent_rows st wrong sound))) where
+    failed : Failed (lent_rows st wrong sound)
     unfolding giving every lent_rows
-    lent_small =
-        ⊎_elim (λ z. omega (arith, e)) (λ t. omega (arith, e, leb-true (first_row (lent_rows st wrong sound)) 4 t))
-        (given (λ k. leb k 4) (lent_rows st wrong sound) refl)
+    failed = zero_failed _ refl (sym (ap (λ (p : Reply). p.number) e))
 
-    -- none does, and the call's own rows are left
-    module _ (z : first ≡ 0) where
-      failed : Failed (lent_rows st wrong sound)
-      unfolding giving every lent_rows
-      failed = zero_failed _ refl (sym e ∙ z)
+    pub lent_passes : first_row (lent_rows st wrong sound ++ own) ≡ first_row own
+    lent_passes = first_row_behind (lent_rows st wrong sound) own failed
 
-      pub lent_passes : (own : List Row) → first_row (lent_rows st wrong sound ++ own) ≡ first_row own
-      lent_passes own = first_row_behind (lent_rows st wrong sound) own failed
+    pub lent_long : wrong ≡ false
+    lent_long = (passed_rows st wrong sound failed).lengths
 
-      pub lent_long : wrong ≡ false
-      lent_long = (passed_rows st wrong sound failed).lengths
+    pub lent_sound : sound ≡ true
+    lent_sound = (passed_rows st wrong sound failed).is_fine
 
-      pub lent_sound : sound ≡ true
-      lent_sound = (passed_rows st wrong sound failed).is_fine
+-- an array within its limits has a card, so that its units can be counted
+pub some_card : (st : State) → beyond_state st ≡ false → 1 ≤ st.cards
+some_card st b = omega (arith, state_bounds st b)

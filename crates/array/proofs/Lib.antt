@@ -33,3 +33,4 @@ pub mod Performed
 pub mod Outcomes
 pub mod ScanBy
 pub mod OpeningBy
+pub mod StandingOf

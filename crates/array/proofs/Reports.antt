@@ -1,17 +1,17 @@
 -- Laws of a report, which is lent the state alone: its number, what an accepted one has passed and leaves, and that a refused one changes nothing.
 -- Assumes nothing.
 use Prim.Native.Nat.{ℕ, ◌<◌}
-use mathlib.Core.Bool.{true, false, not, ◌&&◌}
-use mathlib.Core.List.{List, [], ◌∷◌, ◌++◌}
+use mathlib.Core.Bool.{true, false, not}
+use mathlib.Core.List.{◌++◌}
 use mathlib.Core.Logic.{◌⊎◌, inl, inr, ⊎_elim}
-use mathlib.Core.Path.{◌≡◌, refl, ap}
+use mathlib.Core.Path.{◌≡◌, refl}
 use borrow.Author.Tests.{eqb-true, eqb-false, eq-eqb, ne_eqb, leb-false, not-false}
-use lib.Dec.{leb, eqb}
+use lib.Dec.{eqb}
 use Rattle.terms.specs.Lists.{every}
-use Rattle.terms.specs.Reply.{Row, row, accepted, refused}
+use Rattle.terms.specs.Reply.{accepted, refused}
 use Rattle.terms.proofs.Refusals.{Failed, giving, zero_failed}
 use Rattle.terms.proofs.Rows.{and_false_cases}
-use Rattle.geometry.specs.Limits.{under_way, beyond_state, is_lost}
+use Rattle.geometry.specs.Limits.{under_way, beyond_state}
 use Rattle.geometry.specs.Report.{state_rows, report_rows, report_refusal, marked, reporting}
 use Rattle.geometry.specs.declared.State.{State}
 use Rattle.array.proofs.Lent.{Lently, state_fine, own_rows}

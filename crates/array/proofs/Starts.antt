@@ -2,15 +2,14 @@
 -- changes nothing.
 -- Assumes nothing.
 use mathlib.Core.Bool.{false, not}
-use mathlib.Core.List.{List, [], ◌∷◌, ◌++◌}
+use mathlib.Core.List.{◌++◌}
 use mathlib.Core.Path.{◌≡◌, refl, ap}
 use borrow.Author.Tests.{eqb-true, eqb-false, eq-eqb, ne_eqb, not-false}
-use lib.Dec.{eqb}
 use Rattle.terms.specs.Lists.{every}
-use Rattle.terms.specs.Reply.{Row, row, accepted, refused}
+use Rattle.terms.specs.Reply.{accepted, refused}
 use Rattle.terms.proofs.Refusals.{Failed, giving, zero_failed, failed_zero, failed_both}
 use Rattle.geometry.specs.Fill.{start_rows, start_refusal, starting}
-use Rattle.geometry.specs.Limits.{none, no_fill, under_way, beyond_state, is_lost}
+use Rattle.geometry.specs.Limits.{none, no_fill, beyond_state}
 use Rattle.geometry.specs.Report.{state_rows, with_fill}
 use Rattle.geometry.specs.declared.State.{State}
 use Rattle.array.proofs.Lent.{Lently, state_fine, own_rows}

@@ -19,7 +19,8 @@ use Rattle.geometry.specs.Store.{write_at, read_at}
 use Rattle.geometry.specs.declared.State.{State}
 use Rattle.geometry.proofs.Apart.{write_inside, read_inside}
 use Rattle.geometry.proofs.Asked.{BoundsOf}
-use Rattle.geometry.proofs.Bounds.{legal_bounds}
+use Rattle.geometry.proofs.States.{state_bounds}
+use Rattle.geometry.specs.Limits.{beyond_state}
 use Rattle.record.specs.Life.{units_of}
 use Rattle.array.specs.Admission.{keep_unit}
 use Rattle.array.specs.Collection.{hand_unit}
@@ -91,9 +92,10 @@ module _ (n B mask : ℕ) (to from : ℕ → ℕ) (src l₀ : List ℕ) where
       (whole ∙ sym (rw e (ap₂ (λ (a s : ℕ). put a (part s B src) l) (sym at-is) (sym start_is))))
       (ap length whole ∙ length_put at (part start B src) l (omega arith))
 
-module _ (st : State) (i mask : ℕ) (units work : List ℕ) (k : Keeping st i mask units work) where
-  pub keeping_bounds : BoundsOf st
-  keeping_bounds = legal_bounds st.cards st.stripes st.block st.records k.limits
+-- of record i, in a state within its limits
+module _ (st : State) (i mask : ℕ) (units work : List ℕ) (limits : beyond_state st ≡ false) (below : i < st.records) (k : Keeping st mask units work) where
+  bounds : BoundsOf st
+  bounds = state_bounds st limits
 
   -- a masked unit's place among the bytes of the units has room for it
   pub keep_room : (f : ℕ → List ℕ → List ℕ) (l₀ l : List ℕ) (place u : ℕ) → Turned (units_of st) st.block mask f l₀ l place u
@@ -106,7 +108,7 @@ module _ (st : State) (i mask : ℕ) (units work : List ℕ) (k : Keeping st i m
       → bit u mask ≡ true → (w' : List ℕ) (at : ℕ) → at ≡ write_at st.cards st.block i u → w' ≡ carried w at units from st.block
       → Turned (units_of st) st.block mask (keep_unit st i mask units) work w' (from + st.block) (u + 1)
   keep_more w from u t h e w' at at-is carry =
-      let room = write_inside st.cards st.block st.records i u k.record_below (omega arith) in
+      let room = write_inside st.cards st.block st.records i u below (omega arith) in
       moved (units_of st) st.block mask (write_at st.cards st.block i) (λ v. rank mask v * st.block) units work w w' from u at from t h e at-is
       t.at_rank (omega (arith, t.as_long, k.work_right)) (keep_room (keep_unit st i mask units) work w from u t e) carry
 
@@ -115,6 +117,6 @@ module _ (st : State) (i mask : ℕ) (units work : List ℕ) (k : Keeping st i m
       → bit u mask ≡ true → (l' : List ℕ) (at : ℕ) → at ≡ read_at st.cards st.block i u → l' ≡ carried l place work at st.block
       → Turned (units_of st) st.block mask (hand_unit st i mask work) units l' (place + st.block) (u + 1)
   hand_more l place u t h e l' at at-is carry =
-      let room = read_inside st.cards st.block st.records i u k.record_below (omega arith) in
+      let room = read_inside st.cards st.block st.records i u below (omega arith) in
       moved (units_of st) st.block mask (λ v. rank mask v * st.block) (read_at st.cards st.block i) work units l l' place u place at t h e t.at_rank
       at-is (omega (arith, t.as_long, keep_room (hand_unit st i mask work) units l place u t e)) (omega (arith, k.work_right)) carry

@@ -17,13 +17,16 @@ Within N xr = Unit {0}
 Within N (wr p) = p < N
 Within N nil = Unit {0}
 
--- a record of the table, a legal mask, and the work store: the units of the mask have room in these bytes
-pub record Keeping (st : State) (i mask : ℕ) (units work : List ℕ) : Type 0 where
-  pub limits : legal_state st ≡ true
-  pub record_below : i < st.records
+-- a legal mask, and the work store: the units of the mask have room in these bytes
+pub record Keeping (st : State) (mask : ℕ) (units work : List ℕ) : Type 0 where
   pub units_only : mask < 2 ^ units_of st
   pub work_right : length work ≡ work_size st.cards st.block st.records
   pub room : unit_bytes st mask ≤ length units
+
+-- the work store and the image have their lengths
+pub record Lengths (st : State) (work image : List ℕ) : Type 0 where
+  pub work_right : length work ≡ work_size st.cards st.block st.records
+  pub image_right : length image ≡ image_size st.cards st.stripes st.block
 
 -- the positions that the record's graph reads, as a set
 abbrev pub read_by : State → Record → ℕ

@@ -1,53 +1,40 @@
 // Admit: a request takes the lowest free record.
 // Assumes nothing.
-ghost use Rattle.std.specs.Prelude.{cond, not, ◌≡◌, ◌≤◌, eqb};
+ghost use Rattle.std.specs.Prelude.{◌≡◌};
+ghost use Rattle.terms.specs.Reply.{refused, done_reply};
 ghost use Rattle.array.specs.Admission.{admission_by, keep_units};
-ghost use Rattle.array.specs.Lent.{unit_bytes};
 ghost use Rattle.array.specs.Outcomes.{AdmissionIs};
 ghost use Rattle.array.specs.Premises.{Keeping};
 ghost use Rattle.array.specs.Refusals.{admit_refusal};
-ghost use Rattle.record.specs.Life.{records_of};
-ghost use Rattle.record.specs.Survey.{survey_of};
 
-use crate::answers::{Admission, Admitted};
-use crate::places::write_at;
-use crate::refusals::{lent_refusal, lent_wrong, unit_bytes};
+use crate::answers::Changed;
+use crate::places::{Legal, Row};
 use block::carry;
 use geometry::State;
-use record::{Survey, Table, admitted, free, legal_mask};
+use record::{Survey, admitted, legal_mask};
+use terms::Refusal;
 
-// Copies a write's units, ascending, each to that unit's block to write of a record.
-fn keep_units(state: State, record: u64, mask: u64, payload: &[u8], work: &mut [u8])
-    requires { Keeping state «record» mask payload.now work.old }
-    ensures { work.new ≡ keep_units state «record» mask payload.now work.old }
-{
-    let units = state.cards - 1;
-    let size = state.block as usize;
-    let mut from: usize = 0;
-    let mut u: u64 = 0;
-    while u < units {
-        if (mask >> u) % 2 == 1 {
-            let at = write_at(state, record, u);
-            carry(work, at, payload, from, size);
-            from += size;
+impl Row {
+    // Copies a write's units, ascending, each to that unit's block to write of the record.
+    fn keep_units(self, mask: u64, payload: &[u8], work: &mut [u8])
+        requires { Keeping self.of.state mask payload.now work.old }
+        ensures { work.new ≡ keep_units self.of.state self.number mask payload.now work.old }
+    {
+        let size = self.of.state.block as usize;
+        let mut from: usize = 0;
+        for u in 0..self.of.state.cards - 1 {
+            if (mask >> u) % 2 == 1 {
+                let at = self.write_at(u);
+                carry(work, at, payload, from, size);
+                from += size;
+            }
         }
-        u += 1;
     }
 }
 
-// Whether the payload is not m·B bytes for a write, 0 for a read.
-fn payload_wrong(state: State, write: bool, mask: u64, payload: usize) -> bool
-    requires { state.block ≤ 512 }
-    ensures { result ≡ not (eqb payload (cond write (unit_bytes state mask) 0)) }
-{
-    if !write {
-        return payload != 0;
-    }
-    payload != unit_bytes(state, mask)
-}
-
-// The number by which admit is refused; 0: none.
-fn admit_refusal(
+// Whether admit is refused, in the paper's order.
+#[tactic(auto, using(crate::proofs::LentRows::beyond_refuses, crate::proofs::LentRows::lent_refuses, crate::proofs::LentRows::lent_passes, crate::proofs::LentRows::some_card), unfolding(crate::specs::Refusals::admit_refusal, crate::specs::Refusals::admit_rows, crate::specs::Refusals::payload_wrong, terms::specs::Reply::first_row))]
+fn admit_check(
     state: State,
     survey: Survey,
     work: &[u8],
@@ -56,36 +43,35 @@ fn admit_refusal(
     stripe: u64,
     mask: u64,
     payload: &[u8],
-) -> u64
-    ensures { result ≡ admit_refusal state survey work.now image.now write stripe mask payload.now }
+) -> Result<(), Refusal>
+    ensures { done_reply result ≡ refused (admit_refusal state survey work.now image.now write stripe mask payload.now) }
 {
     if state.beyond() {
-        return 1;
+        return Err(Refusal::BeyondLimits);
     }
-    let wrong = lent_wrong(state, survey.len, work, image);
-    let first = lent_refusal(state, wrong, survey.sound);
-    if first != 0 {
-        return first;
-    }
+    let legal = Legal { state };
+    legal.check(legal.lent_wrong(survey.len, work, image), survey.sound)?;
     if state.stripes <= stripe {
-        return 5;
+        return Err(Refusal::OutOfRange);
     }
     if !legal_mask(state.cards - 1, mask) {
-        return 6;
+        return Err(Refusal::WrongMask);
     }
-    if payload_wrong(state, write, mask, payload.len()) {
-        return 7;
+    let due = if write { legal.unit_bytes(mask) } else { 0 };
+    if payload.len() != due {
+        return Err(Refusal::WrongPayload);
     }
     if survey.is_held(stripe) {
-        return 8;
+        return Err(Refusal::StripeHeld);
     }
     if state.records <= survey.free {
-        return 9;
+        return Err(Refusal::NoFreeRecord);
     }
-    0
+    Ok(())
 }
 
-// Admits a request by a survey of the table: the answer, and the record that is taken, with its place.
+// Admits a request by a survey of the table: the record's number, and the record that is taken, with its place.
+#[tactic(auto, using(terms::proofs::Answers::left_refused), unfolding(crate::specs::Admission::admission_by))]
 pub fn admit_by(
     state: State,
     survey: Survey,
@@ -95,41 +81,21 @@ pub fn admit_by(
     stripe: u64,
     mask: u64,
     payload: &[u8],
-) -> Admission
+) -> Result<Changed<u64>, Refusal>
     ensures { AdmissionIs (admission_by state survey work.old image.now write stripe mask payload.now) result work.new }
 {
-    let number = admit_refusal(state, survey, work, image, write, stripe, mask, payload);
-    if number != 0 {
-        return Admission {
-            answer: Admitted::Refused(number),
-            place: survey.len,
-            record: free(),
-        };
-    }
+    admit_check(state, survey, work, image, write, stripe, mask, payload)?;
     let place = survey.free;
     if write {
-        keep_units(state, place, mask, payload, work);
+        let row = Row {
+            of: Legal { state },
+            number: place,
+        };
+        row.keep_units(mask, payload, work);
     }
-    Admission {
-        answer: Admitted::Taken(place),
+    Ok(Changed {
+        answer: place,
         place,
         record: admitted(state, write, stripe, mask),
-    }
-}
-
-// Admits a request of a stripe and a mask of units: the answer, and the record that is taken, with its place.
-pub fn admit(
-    state: State,
-    table: Table,
-    work: &mut [u8],
-    image: &[u8],
-    write: bool,
-    stripe: u64,
-    mask: u64,
-    payload: &[u8],
-) -> Admission
-    ensures { AdmissionIs (admission_by state (survey_of state (records_of table)) work.old image.now write stripe mask payload.now) result work.new }
-{
-    let survey = table.survey(state);
-    admit_by(state, survey, work, image, write, stripe, mask, payload)
+    })
 }

@@ -1,14 +1,14 @@
-// The calls on an array: open, admit, step, collect, scan and rebuild, over a table by value; and by a survey of the table, or its length,
-// for whoever lends it. (Report and start are lent the state alone, and are methods of it.)
+// The calls on an array: open, admit, step, collect, scan and rebuild, by a survey of the table, or its length, for whoever lends it.
+// (Report and start are lent the state alone, and are methods of it.)
 // Assumes nothing.
 #![tactic(auto)]
 
-pub use admits::{admit, admit_by};
-pub use collects::{collect, collect_by};
-pub use opens::{open, open_by};
-pub use rebuilds::{rebuild, rebuild_by, rebuild_image, rebuild_next};
-pub use scans::{scan, scan_by};
-pub use stepping::{step, step_by};
+pub use admits::admit_by;
+pub use collects::collect_by;
+pub use opens::open_by;
+pub use rebuilds::{rebuild_image, rebuild_next};
+pub use scans::scan_by;
+pub use stepping::step_by;
 
 mod admits;
 pub mod answers;

@@ -1,78 +1,92 @@
 // Where blocks stand, and how large the stores are, of a state within its limits. A call of the array has tested once, for all blocks,
-// what geometry's functions test at each.
+// what geometry's functions test at each: so they are not asked here.
 // Assumes nothing.
-ghost use Rattle.std.specs.Prelude.{true, ◌≡◌, ◌+◌, ◌*◌, ◌≤◌, ◌<◌, length};
+ghost use Rattle.std.specs.Prelude.{true, false, ◌≡◌, ◌+◌, ◌*◌, ◌≤◌, ◌<◌, length};
 ghost use Rattle.terms.specs.Lists.{part};
-ghost use Rattle.geometry.specs.Store.{legal_state, image_size, work_size, cell_at, write_at, read_at};
+ghost use Rattle.geometry.specs.Limits.{beyond_state};
+ghost use Rattle.geometry.specs.Store.{image_size, work_size, cell_at, write_at, read_at};
 
 use geometry::State;
+
+// A state within its limits.
+#[derive(Clone, Copy)]
+pub(crate) struct Legal {
+    pub(crate) state: State,
+    ghost limits: { beyond_state state ≡ false },
+}
+
+// The blocks of a record in the work store.
+#[derive(Clone, Copy)]
+pub(crate) struct Row {
+    pub(crate) of: Legal,
+    pub(crate) number: u64,
+    ghost below: { number < of.state.records },
+}
 
 // Where a block starts that stands in this column of this row, in rows of so many blocks.
 fn offset(row: u64, width: u64, column: u64, block: u64) -> usize
     requires { (row ≤ 8) × (width ≤ 1024) × (column ≤ 1024) × (block ≤ 512) }
     ensures { result ≡ (row * width + column) * block }
 {
-    let first = row * width;
-    let number = first + column;
-    let bytes = number * block;
-    bytes as usize
+    ((row * width + column) * block) as usize
 }
 
-// The bytes of an image.
-pub(crate) fn image_size(state: State) -> usize
-    requires { legal_state state ≡ true }
-    ensures { result ≡ image_size state.cards state.stripes state.block }
-{
-    let blocks = state.cards * state.stripes;
-    let bytes = blocks * state.block;
-    bytes as usize
+impl Legal {
+    // The bytes of an image.
+    pub(crate) fn image_size(self) -> usize
+        ensures { result ≡ image_size self.state.cards self.state.stripes self.state.block }
+    {
+        (self.state.cards * self.state.stripes * self.state.block) as usize
+    }
+
+    // The bytes of a work store.
+    pub(crate) fn work_size(self) -> usize
+        ensures { result ≡ work_size self.state.cards self.state.block self.state.records }
+    {
+        (2 * self.state.cards * self.state.block * self.state.records) as usize
+    }
+
+    // Where the block of a card and a stripe starts in the image.
+    pub(crate) fn cell_at(self, card: u64, stripe: u64) -> usize
+        requires { (card < self.state.cards) × (stripe < self.state.stripes) }
+        ensures { result ≡ cell_at self.state.stripes self.state.block card stripe }
+    {
+        offset(card, self.state.stripes, stripe, self.state.block)
+    }
+
+    // The block of a card and a stripe: a part of the image that starts in its middle.
+    pub(crate) fn cell<'a>(self, image: &'a [u8], card: u64, stripe: u64) -> &'a [u8]
+        requires { (card < self.state.cards) × (stripe < self.state.stripes) × (length image.now ≡ image_size self.state.cards self.state.stripes self.state.block) }
+        ensures { result.now ≡ part (cell_at self.state.stripes self.state.block card stripe) self.state.block image.now }
+    {
+        let size = self.state.block as usize;
+        let a = self.cell_at(card, stripe);
+        let e = a + size;
+        &image[a..e]
+    }
 }
 
-// The bytes of a work store.
-pub(crate) fn work_size(state: State) -> usize
-    requires { legal_state state ≡ true }
-    ensures { result ≡ work_size state.cards state.block state.records }
-{
-    let blocks = 2 * state.cards;
-    let each = blocks * state.block;
-    let bytes = each * state.records;
-    bytes as usize
-}
+impl Row {
+    // Where its block to write of a position starts in the work store.
+    pub(crate) fn write_at(self, position: u64) -> usize
+        requires { position < self.of.state.cards }
+        ensures { result ≡ write_at self.of.state.cards self.of.state.block self.number position }
+    {
+        let state = self.of.state;
+        offset(self.number, 2 * state.cards, position, state.block)
+    }
 
-// Where the block of a card and a stripe starts in the image.
-pub(crate) fn cell_at(state: State, card: u64, stripe: u64) -> usize
-    requires { (legal_state state ≡ true) × (card < state.cards) × (stripe < state.stripes) }
-    ensures { result ≡ cell_at state.stripes state.block card stripe }
-{
-    offset(card, state.stripes, stripe, state.block)
-}
-
-// The block of a card and a stripe: a part of the image that starts in its middle.
-pub(crate) fn cell<'a>(state: State, image: &'a [u8], card: u64, stripe: u64) -> &'a [u8]
-    requires { (legal_state state ≡ true) × (card < state.cards) × (stripe < state.stripes) × (length image.now ≡ image_size state.cards state.stripes state.block) }
-    ensures { result.now ≡ part (cell_at state.stripes state.block card stripe) state.block image.now }
-{
-    let size = state.block as usize;
-    let a = cell_at(state, card, stripe);
-    let e = a + size;
-    &image[a..e]
-}
-
-// Where a record's block to write of a position starts in the work store.
-pub(crate) fn write_at(state: State, record: u64, position: u64) -> usize
-    requires { (legal_state state ≡ true) × («record» < state.records) × (position < state.cards) }
-    ensures { result ≡ write_at state.cards state.block «record» position }
-{
-    let width = 2 * state.cards;
-    offset(record, width, position, state.block)
-}
-
-// Where a record's block read of a position starts in the work store.
-pub(crate) fn read_at(state: State, record: u64, position: u64) -> usize
-    requires { (legal_state state ≡ true) × («record» < state.records) × (position < state.cards) }
-    ensures { result ≡ read_at state.cards state.block «record» position }
-{
-    let width = 2 * state.cards;
-    let column = state.cards + position;
-    offset(record, width, column, state.block)
+    // Where its block read of a position starts in the work store.
+    pub(crate) fn read_at(self, position: u64) -> usize
+        requires { position < self.of.state.cards }
+        ensures { result ≡ read_at self.of.state.cards self.of.state.block self.number position }
+    {
+        let state = self.of.state;
+        offset(
+            self.number,
+            2 * state.cards,
+            state.cards + position,
+            state.block,
+        )
+    }
 }

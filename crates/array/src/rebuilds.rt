@@ -1,81 +1,54 @@
 // Rebuild: the stripe at the fill place is filled, and the fill moves on.
 // Assumes nothing.
 ghost use Rattle.std.specs.Prelude.{◌≡◌};
-ghost use Rattle.array.specs.Outcomes.{RebuildingSaid, RebuildingIs, written_by};
+ghost use Rattle.terms.specs.Reply.{refused, done_reply};
+ghost use Rattle.parity.specs.Rest.{restored_in};
+ghost use Rattle.array.specs.Outcomes.{RebuildingSaid};
 ghost use Rattle.array.specs.Rebuilding.{rebuilding_by};
 ghost use Rattle.array.specs.Refusals.{rebuild_refusal};
-ghost use Rattle.record.specs.Life.{records_of};
-ghost use Rattle.record.specs.Survey.{survey_of};
 
-use crate::answers::{Rebuilding, Rebuilt};
-use crate::refusals::{lent_refusal, seen_wrong};
+use crate::answers::Filled;
+use crate::places::Legal;
 use geometry::{NO_FILL, State};
 use parity::restore;
-use record::{Survey, Table};
+use record::Survey;
+use terms::Refusal;
 
-// The number by which rebuild is refused; 0: none. It isn't lent the work store.
-fn rebuild_refusal(state: State, survey: Survey, image: &[u8]) -> u64
-    ensures { result ≡ rebuild_refusal state survey image.now }
+// Whether rebuild is refused, in the paper's order. It isn't lent the work store.
+#[tactic(auto, using(crate::proofs::LentRows::beyond_refuses, crate::proofs::LentRows::lent_refuses, crate::proofs::LentRows::lent_passes), unfolding(crate::specs::Refusals::rebuild_refusal, crate::specs::Refusals::rebuild_rows, terms::specs::Reply::first_row))]
+fn rebuild_check(state: State, survey: Survey, image: &[u8]) -> Result<(), Refusal>
+    ensures { done_reply result ≡ refused (rebuild_refusal state survey image.now) }
 {
     if state.beyond() {
-        return 1;
+        return Err(Refusal::BeyondLimits);
     }
-    let wrong = seen_wrong(state, survey.len, image);
-    let first = lent_refusal(state, wrong, survey.sound);
-    if first != 0 {
-        return first;
-    }
+    let legal = Legal { state };
+    legal.check(legal.seen_wrong(survey.len, image), survey.sound)?;
     if survey.is_held(state.fill) {
-        return 8;
+        return Err(Refusal::StripeHeld);
     }
     if state.fill == NO_FILL {
-        return 14;
+        return Err(Refusal::NoFill);
     }
-    0
+    Ok(())
 }
 
-// What a rebuild step answers, by a survey of the table, and the state with the fill moved on. The block is left to `rebuild_image`: who lends the
+// What a rebuild step fills, by a survey of the table, and the state with the fill moved on. The block is left to `rebuild_image`: who lends the
 // state stores it before the block is written, so that the next step need not wait for the block's way to its card.
-pub fn rebuild_next(state: State, survey: Survey, image: &[u8]) -> Rebuilding
-    ensures { RebuildingSaid (rebuilding_by state survey image.now) result }
+#[tactic(auto, using(terms::proofs::Answers::left_refused, crate::proofs::Outcomes::rebuilding_filled), unfolding(crate::specs::Rebuilding::rebuilding_by))]
+pub fn rebuild_next(state: State, survey: Survey, image: &[u8]) -> Result<Filled, Refusal>
+    ensures { RebuildingSaid (rebuilding_by state survey image.now) state image.now result }
 {
-    let number = rebuild_refusal(state, survey, image);
-    if number != 0 {
-        return Rebuilding {
-            answer: Rebuilt::Refused(number),
-            state,
-        };
-    }
-    Rebuilding {
-        answer: Rebuilt::Filled(state.fill),
+    rebuild_check(state, survey, image)?;
+    Ok(Filled {
+        stripe: state.fill,
         state: state.moved_on(),
-    }
+    })
 }
 
-// Writes the block of a rebuild step of this answer, on the state before the step; nothing where it was refused.
-pub fn rebuild_image(state: State, answer: Rebuilt, image: &mut [u8])
-    ensures { image.new ≡ written_by state answer image.old }
+// Writes the block of a rebuild step that fills this stripe, on the state before the step.
+pub fn rebuild_image(state: State, stripe: u64, image: &mut [u8])
+    ensures { image.new ≡ restored_in state image.old state.out stripe }
 {
-    match answer {
-        Rebuilt::Filled(stripe) => restore(state, state.out, stripe, image),
-        Rebuilt::Refused(number) => {}
-    }
-}
-
-// Fills the stripe at the fill place on the card that is out, by a survey of the table: the answer, and the state with the fill moved on.
-pub fn rebuild_by(state: State, survey: Survey, image: &mut [u8]) -> Rebuilding
-    ensures { RebuildingIs (rebuilding_by state survey image.old) result image.new }
-{
-    let made = rebuild_next(state, survey, image);
-    let answer = made.answer;
-    rebuild_image(state, answer, image);
-    made
-}
-
-// Fills the stripe at the fill place on the card that is out: the answer, and the state with the fill moved on.
-pub fn rebuild(state: State, table: Table, image: &mut [u8]) -> Rebuilding
-    ensures { RebuildingIs (rebuilding_by state (survey_of state (records_of table)) image.old) result image.new }
-{
-    let survey = table.survey(state);
-    rebuild_by(state, survey, image)
+    restore(state, state.out, stripe, image)
 }

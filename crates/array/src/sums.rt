@@ -1,13 +1,12 @@
 // The exclusive or of a record's blocks: each sum starts from a block of 512 zero bytes, of which B are used.
 // Assumes nothing.
-ghost use Rattle.std.specs.Prelude.{true, ◌≡◌, ◌+◌, ◌*◌, ◌≤◌, ◌<◌, length};
+ghost use Rattle.std.specs.Prelude.{◌≡◌, ◌+◌, ◌*◌, ◌≤◌, ◌<◌, length};
 ghost use Rattle.array.specs.Sums.{taken_if, block_sum};
 ghost use Rattle.block.specs.Blocks.{summed, carried};
-ghost use Rattle.geometry.specs.Store.{legal_state, work_size};
+ghost use Rattle.geometry.specs.Store.{work_size};
 
-use crate::places::{read_at, write_at};
+use crate::places::Row;
 use block::{add, carry};
-use geometry::State;
 
 // Adds the blocks of a set of positions, which stand one behind the other from a place on.
 fn add_taken(sum: &mut [u8; 512], taken: u64, first: usize, cards: u64, size: usize, work: &[u8])
@@ -15,34 +14,28 @@ fn add_taken(sum: &mut [u8; 512], taken: u64, first: usize, cards: u64, size: us
     ensures { sum.new ≡ summed cards (taken_if taken first size work.now) sum.old }
 {
     let mut at = first;
-    let mut p: u64 = 0;
-    while p < cards {
+    for p in 0..cards {
         let end = at + size;
         if (taken >> p) % 2 == 1 {
             add(sum, &work[at..end]);
         }
         at = end;
-        p += 1;
     }
 }
 
-// Puts the sum of a record's blocks, read and to write, into the work store at a place.
-pub(crate) fn sum_blocks(
-    state: State,
-    record: u64,
-    reads: u64,
-    news: u64,
-    at: usize,
-    work: &mut [u8],
-)
-    requires { (legal_state state ≡ true) × («record» < state.records) × (length work.old ≡ work_size state.cards state.block state.records) }
-    ensures { work.new ≡ carried work.old at (block_sum state «record» reads news work.old) 0 state.block }
-{
-    let size = state.block as usize;
-    let read = read_at(state, record, 0);
-    let new = write_at(state, record, 0);
-    let mut sum = [0u8; 512];
-    add_taken(&mut sum, reads, read, state.cards, size, work);
-    add_taken(&mut sum, news, new, state.cards, size, work);
-    carry(work, at, &sum, 0, size);
+impl Row {
+    // Puts the sum of the record's blocks, read and to write, into the work store at a place.
+    pub(crate) fn sum_blocks(self, reads: u64, news: u64, at: usize, work: &mut [u8])
+        requires { length work.old ≡ work_size self.of.state.cards self.of.state.block self.of.state.records }
+        ensures { work.new ≡ carried work.old at (block_sum self.of.state self.number reads news work.old) 0 self.of.state.block }
+    {
+        let state = self.of.state;
+        let size = state.block as usize;
+        let read = self.read_at(0);
+        let new = self.write_at(0);
+        let mut sum = [0u8; 512];
+        add_taken(&mut sum, reads, read, state.cards, size, work);
+        add_taken(&mut sum, news, new, state.cards, size, work);
+        carry(work, at, &sum, 0, size);
+    }
 }

@@ -1,6 +1,0 @@
--- `array::collects::collect` meets its contract: the call by survey, of the table's own survey and its record.
--- Assumes nothing.
-use Rattle.array.proofs.collects.collect.Goals as goal
-
-pub returns : goal.returns
-returns c = rw (c.survey_but-survey.ensures, c.at-r.ensures) at c.collect_by.ensures

@@ -1,0 +1,27 @@
+-- `array::performs::Standing::sum` meets its contract: the sum of the blocks is what the exclusive or leaves.
+-- Assumes nothing.
+use Prim.Native.Nat.{ℕ}
+use mathlib.Core.Path.{ap₂, ◌∙◌}
+use native.Mathlib.Omega.{arith}
+use Rattle.block.specs.Blocks.{carried}
+use Rattle.geometry.proofs.States.{state_bounds}
+use Rattle.array.specs.Sums.{block_sum}
+use Rattle.array.proofs.Performed.{news_are, performed_sum, sum_room}
+use Rattle.array.proofs.StandingOf.{standing_of}
+use Rattle.array.proofs.performs.Standing.sum.Goals as goal
+
+pub overflow_sub-self : goal.overflow_sub-self
+overflow_sub-self c = omega (arith, state_bounds c.args.self.row.of.state c.args.self.row.of.limits)
+
+pub sum_blocks-requires : goal.sum_blocks-requires
+sum_blocks-requires c = c.requires.work_right
+
+pub returns : goal.returns
+returns c =
+    let a = c.args in
+    let st = a.self.row.of.state in
+    let at = c.sum_at-at in
+    let news = news_are c.args.self.row.of.state c.args.self.row.number c.args.self.r c.args.work.now c.args.image.now (standing_of c.args.self c.args.work.now c.args.image.now c.requires) _ c.taken_news-news.ensures in
+    performed_sum c.args.self.row.of.state c.args.self.row.number c.args.self.r c.args.work.now c.args.image.now (standing_of c.args.self c.args.work.now c.args.image.now c.requires) _ _ at.ensures (rw at.ensures (sum_room c.args.self.row.of.state c.args.self.row.number c.args.self.r c.args.work.now c.args.image.now (standing_of c.args.self c.args.work.now c.args.image.now c.requires)))
+    (c.sum_blocks.ensures
+    ∙ ap₂ (λ (old new : ℕ). carried a.work.now at.result (block_sum st a.self.row.number old new a.work.now) 0 st.block) a.self.reads_are news)

@@ -1,0 +1,52 @@
+-- `array::places::Row::hand_over` meets its contract: after u turns the units below u are handed over.
+-- Assumes nothing.
+use native.Mathlib.Omega.{arith}
+use Rattle.terms.proofs.Bits.{bit_odd, bit_even}
+use Rattle.geometry.proofs.States.{state_bounds}
+use Rattle.array.specs.Collection.{hand_over}
+use Rattle.array.proofs.Units.{turned_none, turned_pass, turned_all, keep_room, hand_more}
+use Rattle.array.proofs.places.Row.hand_over.Goals as goal
+use Rattle.array.proofs.places.Row.hand_over.Goals.{then-mask-u-eq1, else-mask-u-eq1}
+
+pub overflow_sub-u-end : goal.overflow_sub-u-end
+overflow_sub-u-end c = omega (arith, state_bounds c.args.self.of.state c.args.self.of.limits)
+
+pub loop-u-init : goal.loop-u-init
+loop-u-init c = turned_none _ _ _ _ _
+
+pub overflow_shr-mask : goal.overflow_shr-mask
+overflow_shr-mask c = omega (arith, state_bounds c.args.self.of.state c.args.self.of.limits)
+
+pub overflow_add-place : goal.overflow_add-place
+overflow_add-place c =
+    let a = c.args in
+    let k = c.loop-u in
+    omega (
+      arith,
+      c.well_formed,
+      keep_room a.self.of.state a.self.number a.mask a.res.now a.work.now a.self.of.limits a.self.below c.requires _ _ k.res k.place k.u k.invariant
+          (bit_odd k.u a.mask c.if-mask-u-eq1.true),
+    )
+
+pub loop-u-preserved : goal.loop-u-preserved
+loop-u-preserved c =
+    let a = c.args in
+    let k = c.loop-u in
+    elim c.if-mask-u-eq1.branch [
+      | then-mask-u-eq1 w ↦
+          rw (w.res-is, w.place-is)
+          (hand_more a.self.of.state a.self.number a.mask a.res.now a.work.now a.self.of.limits a.self.below c.requires k.res k.place k.u k.invariant
+          c.loop-u-test.true (bit_odd k.u a.mask w.if-mask-u-eq1.true) _ _ w.read_at-at.ensures w.carry.ensures)
+      | else-mask-u-eq1 w ↦
+          rw (w.res-is, w.place-is)
+          (turned_pass _ _ _ _ _ k.res k.place k.u k.invariant c.loop-u-test.true (bit_even k.u a.mask w.if-mask-u-eq1.false) (rw (bit_even k.u a.mask w.if-mask-u-eq1.false)))
+    ]
+
+pub shape_of-res : goal.shape_of-res
+shape_of-res c = c.loop-u.invariant.as_long
+
+pub returns : goal.returns
+unfolding hand_over
+returns c =
+    let k = c.loop-u in
+    turned_all _ _ _ _ _ k.res k.place k.u k.invariant c.loop-u-test.false

@@ -1,0 +1,18 @@
+-- `array::places::Row::write_at` meets its contract: the block's number among those of the record.
+-- Assumes nothing.
+use native.Mathlib.Omega.{arith}
+use Rattle.geometry.specs.Store.{write_at}
+use Rattle.geometry.proofs.States.{state_bounds}
+use Rattle.array.proofs.places.Row.write_at.Goals as goal
+
+pub overflow_mul-state : goal.overflow_mul-state
+overflow_mul-state c =
+    let b = state_bounds c.args.self.of.state c.args.self.of.limits in record { fits = omega (arith, b) }
+
+pub offset-requires : goal.offset-requires
+offset-requires c =
+    let b = state_bounds c.args.self.of.state c.args.self.of.limits in omega (arith, b, c.args.self.below, c.requires)
+
+pub returns : goal.returns
+unfolding write_at
+returns c = let e = c.offset.ensures in omega arith

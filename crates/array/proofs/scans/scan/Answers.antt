@@ -1,6 +1,0 @@
--- `array::scans::scan` meets its contract: the call by survey, of the table's own survey.
--- Assumes nothing.
-use Rattle.array.proofs.scans.scan.Goals as goal
-
-pub returns : goal.returns
-returns c = rw c.survey-survey.ensures at c.scan_by.ensures
