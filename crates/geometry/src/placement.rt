@@ -93,13 +93,11 @@ impl State {
     pub fn out_in(self, stripe: u64) -> u64
         ensures { result ≡ out_in self stripe }
     {
-        if self.fill == NO_FILL {
-            return self.out;
+        if self.fill != NO_FILL && stripe < self.fill {
+            NONE
+        } else {
+            self.out
         }
-        if stripe < self.fill {
-            return NONE;
-        }
-        self.out
     }
 
     // The position that is missing in a stripe; N where none is.
