@@ -11,10 +11,10 @@ pub const LEVEL_4: u64 = 4;
 
 pub const LEVEL_5: u64 = 5;
 
-// The number that says that no card is out.
+// The number that says that no card is out. It is no Option, as C reads and writes it (`coppicetune_state`).
 pub const NONE: u64 = 255;
 
-// The number that says that no fill is under way.
+// The number that says that no fill is under way; C reads and writes it too.
 pub const NO_FILL: u64 = 65535;
 
 // A number that is no stripe's.

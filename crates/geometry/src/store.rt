@@ -1,4 +1,5 @@
-// Where blocks stand in the image: card 0's by stripe, then card 1's. Whatever the state's numbers are: 0 where there is no such block.
+// Where blocks stand in the image: card 0's by stripe, then card 1's. Whatever the state's numbers are: 0 where there is no such block, as
+// specs/Asked says.
 // Assumes nothing.
 ghost use Rattle.std.specs.Prelude.{◌≡◌, ◌+◌, ◌*◌, ◌≤◌};
 ghost use Rattle.geometry.specs.Store.{legal_state, in_image};
