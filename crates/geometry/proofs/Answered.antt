@@ -12,6 +12,7 @@ use Rattle.geometry.specs.Answers.{places_of, beyond_places, place_refusal, plac
 use Rattle.geometry.specs.Limits.{none}
 use Rattle.geometry.specs.Placement.{stripe_of, card_of, block_of, position_of}
 use Rattle.geometry.proofs.Bounds.{Bounds, within_limits}
+use Rattle.geometry.proofs.Placing.{card_of_4, card_of_5, position_small}
 
 module _ (N S layout : ℕ) where
   -- within the limits, with B taken as 16 and K as 1
@@ -43,3 +44,8 @@ module _ (N S layout : ℕ) where
     pub block_at_found : beyond_places N S layout ≡ false → c < N → s < S → ¬ (position_of N layout s c ≡ N - 1) → block_at_reply N S layout c s ≡ accepted 0 (block_of N s (position_of N layout s c))
     unfolding block_at_reply block_at_refusal first_row
     block_at_found e hc hs p = grind (arith, nat_tests)
+
+-- what `place` and `block_at` cite
+pub ruleset dealing = (places_bounds, blocks_few, place_tested, card_of_4, card_of_5)
+
+pub ruleset holding = (places_bounds, blocks_few, position_small)

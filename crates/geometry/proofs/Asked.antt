@@ -59,3 +59,6 @@ module _ (st : State) where
       let p = in_image_law st c s e in
       let size = image_size_in_is st p.bounds in
       rw (e, add-sub_cancel_left, eq-eqb _ _ (l ∙ size), cell_in_is st c s p) refl
+
+-- what `cell` cites
+pub ruleset cutting = (in_image_law, image_size_in_is, cell_in_inside, cell_part_there)

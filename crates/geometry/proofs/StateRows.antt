@@ -28,3 +28,6 @@ module _ (st : State) (own : List Row) where
   unfolding giving every state_rows
   state_passes e =
       first_row_behind (state_rows st) own (zero_failed _ refl (sym (ap (λ (p : Reply). p.number) e)))
+
+-- what a call cites that asks the state first
+pub ruleset passing = (state_refuses, state_passes)

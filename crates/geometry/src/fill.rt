@@ -10,7 +10,7 @@ use terms::Refusal;
 
 impl State {
     // Whether a fill may be begun, or why not.
-    #[tactic(auto, using(crate::proofs::StateRows::state_refuses, crate::proofs::StateRows::state_passes), unfolding(crate::specs::Fill::start_refusal, crate::specs::Fill::start_rows, terms::specs::Reply::first_row))]
+    #[tactic(auto, using(crate::proofs::StateRows::passing), unfolding(crate::specs::Fill::start_refusal, crate::specs::Fill::start_rows, terms::specs::Reply::first_row))]
     fn may_start(self) -> Result<(), Refusal>
         ensures { done_reply result ≡ refused (start_refusal self) }
     {

@@ -11,10 +11,10 @@ pub const LEVEL_4: u64 = 4;
 
 pub const LEVEL_5: u64 = 5;
 
-// The number that says that no card is out.
+// The number that says that no card is out. It is no Option, as C reads and writes it (`coppicetune_state`).
 pub const NONE: u64 = 255;
 
-// The number that says that no fill is under way.
+// The number that says that no fill is under way; C reads and writes it too.
 pub const NO_FILL: u64 = 65535;
 
 // A number that is no stripe's.
@@ -60,26 +60,28 @@ impl Geometry {
     }
 }
 
-impl State {
-    // The geometry that the array was opened with.
-    pub fn geometry(self) -> Geometry
-        ensures { result ≡ geometry_of self }
-    {
+// The geometry that an array was opened with.
+impl From<State> for Geometry {
+    ghost from_gives = { λ state geometry. geometry ≡ geometry_of state };
+
+    fn from(state: State) -> Geometry {
         Geometry {
-            cards: self.cards,
-            stripes: self.stripes,
-            block: self.block,
-            records: self.records,
-            layout: self.layout,
+            cards: state.cards,
+            stripes: state.stripes,
+            block: state.block,
+            records: state.records,
+            layout: state.layout,
         }
     }
+}
 
+impl State {
     // Refusal 1: whether a number of the state is beyond its limits.
     #[tactic(auto, unfolding(crate::specs::Limits::beyond_state))]
     pub fn beyond(self) -> bool
         ensures { result ≡ beyond_state self }
     {
-        self.geometry().beyond(self.out) || !legal_fill(self.stripes, self.out, self.fill)
+        Geometry::from(self).beyond(self.out) || !legal_fill(self.stripes, self.out, self.fill)
     }
 
     // Refusal 4: whether the array is lost.

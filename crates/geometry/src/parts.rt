@@ -8,7 +8,7 @@ use crate::State;
 
 impl State {
     // The block of a card and a stripe.
-    #[tactic(auto, using(crate::proofs::Asked::in_image_law, crate::proofs::Asked::image_size_in_is, crate::proofs::Asked::cell_in_inside, crate::proofs::Asked::cell_part_there), unfolding(crate::specs::Asked::cell_part, crate::specs::Store::image_wrong, terms::specs::Lists::part))]
+    #[tactic(auto, using(crate::proofs::Asked::cutting), unfolding(crate::specs::Asked::cell_part, crate::specs::Store::image_wrong, terms::specs::Lists::part))]
     pub fn cell(self, image: &[u8], card: u64, stripe: u64) -> &[u8]
         ensures { result.now ≡ cell_part self card stripe image.now }
     {

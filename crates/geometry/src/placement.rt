@@ -10,7 +10,7 @@ use crate::{Geometry, Held, LEVEL_4, NO_FILL, NONE, Placed, State};
 use terms::Refusal;
 
 // The card of a position of a stripe in layout 5. What is left of the turn is taken before the test, so that the compiler makes no branch of it.
-#[tactic(auto, using(crate::proofs::Turns::turn_below, crate::proofs::Turns::card_before, crate::proofs::Turns::card_from))]
+#[tactic(auto, using(crate::proofs::Turns::card_before, crate::proofs::Turns::card_from))]
 fn rotated_card(cards: u64, stripe: u64, position: u64) -> u64
     requires { position < cards }
     ensures { result ≡ card_at5 cards stripe position }
@@ -24,7 +24,7 @@ fn rotated_card(cards: u64, stripe: u64, position: u64) -> u64
 }
 
 // The position of a card in a stripe of layout 5.
-#[tactic(auto, using(crate::proofs::Turns::turn_below, crate::proofs::Turns::position_before, crate::proofs::Turns::position_from))]
+#[tactic(auto, using(crate::proofs::Turns::position_before, crate::proofs::Turns::position_from))]
 fn rotated_position(cards: u64, stripe: u64, card: u64) -> u64
     requires { card < cards }
     ensures { result ≡ position_of5 cards stripe card }
@@ -63,7 +63,7 @@ fn position_of(cards: u64, layout: u64, stripe: u64, card: u64) -> u64
     }
 }
 
-// The card of a position of a stripe, position n being parity; N where there is no such position.
+// The card of a position of a stripe, position n being parity; N where there is no such position, as `card_in` says.
 #[tactic(auto, unfolding(crate::specs::Placement::card_in))]
 pub fn card_at(cards: u64, layout: u64, stripe: u64, position: u64) -> u64
     ensures { result ≡ card_in cards layout stripe position }
@@ -75,7 +75,7 @@ pub fn card_at(cards: u64, layout: u64, stripe: u64, position: u64) -> u64
     }
 }
 
-// The position of a card in a stripe; N where there is no such card.
+// The position of a card in a stripe; N where there is no such card, as `missing_at` says, by which graphs are chosen.
 #[tactic(auto, unfolding(crate::specs::Placement::missing_at))]
 pub fn missing_at(cards: u64, layout: u64, stripe: u64, card: u64) -> u64
     ensures { result ≡ missing_at cards layout stripe card }
@@ -88,18 +88,16 @@ pub fn missing_at(cards: u64, layout: u64, stripe: u64, card: u64) -> u64
 }
 
 impl State {
-    // The card that is missing in a stripe, or 255: none is where the stripe is filled.
+    // The card that is missing in a stripe, or 255, as `out_in` says: none is where the stripe is filled.
     #[tactic(auto, unfolding(crate::specs::Placement::out_in, crate::specs::Placement::filled))]
     pub fn out_in(self, stripe: u64) -> u64
         ensures { result ≡ out_in self stripe }
     {
-        if self.fill == NO_FILL {
-            return self.out;
+        if self.fill != NO_FILL && stripe < self.fill {
+            NONE
+        } else {
+            self.out
         }
-        if stripe < self.fill {
-            return NONE;
-        }
-        self.out
     }
 
     // The position that is missing in a stripe; N where none is.
@@ -147,7 +145,7 @@ impl Geometry {
     }
 
     // The card and the stripe of a logical block: layout 4 deals the blocks to the first n cards, layout 5 to all N.
-    #[tactic(auto, using(crate::proofs::Answered::places_bounds, crate::proofs::Answered::blocks_few, crate::proofs::Answered::place_tested, crate::proofs::Placing::card_of_4, crate::proofs::Placing::card_of_5), unfolding(crate::specs::Answers::place_reply, crate::specs::Answers::place_refusal, terms::specs::Reply::first_row))]
+    #[tactic(auto, using(crate::proofs::Answered::dealing), unfolding(crate::specs::Answers::place_reply, crate::specs::Answers::place_refusal, terms::specs::Reply::first_row))]
     pub fn place(self, block: u64) -> Result<Placed, Refusal>
         ensures { placed_reply result ≡ place_reply self.cards self.stripes self.layout block }
     {
@@ -169,7 +167,7 @@ impl Geometry {
     }
 
     // What a card holds in a stripe: a logical block's number, or parity.
-    #[tactic(auto, using(crate::proofs::Answered::places_bounds, crate::proofs::Answered::blocks_few, crate::proofs::Placing::position_small), unfolding(crate::specs::Answers::block_at_reply, crate::specs::Answers::block_at_refusal, terms::specs::Reply::first_row))]
+    #[tactic(auto, using(crate::proofs::Answered::holding), unfolding(crate::specs::Answers::block_at_reply, crate::specs::Answers::block_at_refusal, terms::specs::Reply::first_row))]
     pub fn block_at(self, card: u64, stripe: u64) -> Result<Held, Refusal>
         ensures { held_reply result ≡ block_at_reply self.cards self.stripes self.layout card stripe }
     {

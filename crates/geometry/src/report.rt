@@ -24,7 +24,7 @@ impl State {
     }
 
     // Whether a card may be reported, or why not.
-    #[tactic(auto, using(crate::proofs::StateRows::state_refuses, crate::proofs::StateRows::state_passes), unfolding(crate::specs::Report::report_refusal, crate::specs::Report::report_rows, terms::specs::Reply::first_row))]
+    #[tactic(auto, using(crate::proofs::StateRows::passing), unfolding(crate::specs::Report::report_refusal, crate::specs::Report::report_rows, terms::specs::Reply::first_row))]
     fn may_report(self, card: u64) -> Result<(), Refusal>
         ensures { done_reply result ≡ refused (report_refusal self card) }
     {

@@ -1,7 +1,8 @@
-// Where blocks stand in the image: card 0's by stripe, then card 1's. Whatever the state's numbers are: 0 where there is no such block.
+// Where blocks stand in the image: card 0's by stripe, then card 1's. Whatever the state's numbers are: 0 where there is no such block, as
+// specs/Asked says.
 // Assumes nothing.
 ghost use Rattle.std.specs.Prelude.{◌≡◌, ◌+◌, ◌*◌, ◌≤◌};
-ghost use Rattle.geometry.specs.Store.{in_image};
+ghost use Rattle.geometry.specs.Store.{legal_state, in_image};
 ghost use Rattle.geometry.specs.Asked.{image_size_in, cell_in};
 
 use crate::{State, legal};
@@ -16,14 +17,19 @@ fn offset(row: u64, width: u64, column: u64, block: u64) -> usize
 }
 
 impl State {
+    // Whether N, S, B and K are within their limits.
+    fn is_legal(self) -> bool
+        ensures { result ≡ legal_state self }
+    {
+        legal(self.cards, self.stripes, self.block, self.records)
+    }
+
     // Whether a card has a block in a stripe.
     #[tactic(auto, unfolding(crate::specs::Store::in_image))]
     pub fn in_image(self, card: u64, stripe: u64) -> bool
         ensures { result ≡ in_image self card stripe }
     {
-        legal(self.cards, self.stripes, self.block, self.records)
-            && card < self.cards
-            && stripe < self.stripes
+        self.is_legal() && card < self.cards && stripe < self.stripes
     }
 
     // The bytes of an image.
@@ -31,7 +37,7 @@ impl State {
     pub fn image_size(self) -> usize
         ensures { result ≡ image_size_in self }
     {
-        if legal(self.cards, self.stripes, self.block, self.records) {
+        if self.is_legal() {
             (self.cards * self.stripes * self.block) as usize
         } else {
             0
