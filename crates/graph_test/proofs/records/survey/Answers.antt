@@ -4,7 +4,6 @@ use Prim.Native.Nat.{ℕ, ◌/◌, ◌<◌}
 use mathlib.Core.List.{List}
 use mathlib.Core.Path.{◌≡◌, sym, ap, ap₂, ◌∙◌}
 use native.Mathlib.Omega.{arith}
-use borrow.Author.Rules.{rules}
 use lib.ListN.{length, get_or}
 use Rattle.terms.proofs.Lists.{length_tabulate, get_d_tabulate}
 use Rattle.geometry.specs.declared.State.{State}
@@ -34,8 +33,7 @@ passing st n top i e h =
 
 pub loop-i-init : goal.loop-i-init
 unfolding seen_to
-loop-i-init c =
-    (search rules, c.started-survey.ensures ∙ ap (started c.state-state.result) (sym (whole c.args.all.now)))
+loop-i-init c = c.started-survey.ensures ∙ ap (started c.state-state.result) (sym (whole c.args.all.now))
 
 pub record-r-requires : goal.record-r-requires
 record-r-requires c =
@@ -46,20 +44,18 @@ pub loop-i-preserved : goal.loop-i-preserved
 loop-i-preserved c =
     let s = c.state-state.result in
     let all = c.args.all.now in
-    let p = passing s (length all / 8) c.to_see-top.result c.loop-i.i c.to_see-top.ensures c.loop-i-test.true in (
-      search rules,
-      c.seen-survey.ensures
-          ∙ ap₂ (λ (v : Survey) (r : Record). seen s v c.loop-i.i r) c.loop-i.invariant.1 (c.record-r.ensures ∙ at all c.loop-i.i p.0)
-          ∙ seen_next s (table_from all) c.loop-i.i,
-    )
+    let p = passing s (length all / 8) c.to_see-top.result c.loop-i.i c.to_see-top.ensures c.loop-i-test.true in
+    c.seen-survey.ensures
+    ∙ ap₂ (λ (v : Survey) (r : Record). seen s v c.loop-i.i r) c.loop-i.invariant (c.record-r.ensures ∙ at all c.loop-i.i p.0)
+    ∙ seen_next s (table_from all) c.loop-i.i
 
 pub returns : goal.returns
 unfolding survey_from
 returns c =
     let s = c.state-state.result in
     let all = c.args.all.now in
-    let e : c.loop-i.i ≡ to_see s (length all / 8) = omega (arith, c.loop-i.invariant.0, c.loop-i-test.false, c.to_see-top.ensures) in
-    c.loop-i.invariant.1
+    let e : c.loop-i.i ≡ to_see s (length all / 8) = omega (arith, c.loop-i.auto.i-end, c.loop-i-test.false, c.to_see-top.ensures) in
+    c.loop-i.invariant
     ∙ ap (seen_to s (table_from all)) (e ∙ ap (to_see s) (sym (whole all)))
     ∙ survey_is s (table_from all)
     ∙ ap (λ (st : State). survey_of st (table_from all)) c.state-state.ensures
