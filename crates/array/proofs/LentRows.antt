@@ -42,7 +42,3 @@ module _ (st : State) (wrong sound : Bool) (own : List Row) where
 
     pub lent_sound : sound ≡ true
     lent_sound = (passed_rows st wrong sound failed).is_fine
-
--- an array within its limits has a card, so that its units can be counted
-pub some_card : (st : State) → beyond_state st ≡ false → 1 ≤ st.cards
-some_card st b = omega (arith, state_bounds st b)

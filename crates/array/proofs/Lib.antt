@@ -23,6 +23,7 @@ pub mod Bytes
 -- What the code's proofs rest on.
 -- The tests: rows 1 to 4, and what an accepted call rests on
 pub mod Choices
+pub mod Within
 pub mod LentRows
 pub mod Accepted
 -- The work: units that are moved, blocks that are added up, a step by its kind

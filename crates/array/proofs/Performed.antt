@@ -191,10 +191,3 @@ step_within N k h = reads (leb k (N - 1)) refl
 -- the step that an action tells is within
 pub told_within : (N k : ℕ) (s : Step) → 0 < N → step_of (N - 1) k ≡ s → Within N s
 told_within N k s h e = subst (Within N) e (step_within N k h)
-
--- what is left after step t is what is left after step s, which is t
-pub as_told : (st : State) (i : ℕ) (r : Record) (work image : List ℕ) (s t : Step) (w m : List ℕ) → s ≡ t
-    → w ≡ work_after st i r t work image → m ≡ image_after st i r t work image
-    → (w ≡ work_after st i r s work image) × (m ≡ image_after st i r s work image)
-as_told st i r work image s t w m e hw hm =
-    (hw ∙ ap (λ (u : Step). work_after st i r u work image) (sym e), hm ∙ ap (λ (u : Step). image_after st i r u work image) (sym e))

@@ -16,6 +16,7 @@ use terms::Refusal;
 
 impl Row {
     // Copies a write's units, ascending, each to that unit's block to write of the record.
+    #[tactic(auto, using(crate::proofs::Within::within))]
     fn keep_units(self, mask: u64, payload: &[u8], work: &mut [u8])
         requires { Keeping self.of.state mask payload.now work.old }
         ensures { work.new ≡ keep_units self.of.state self.number mask payload.now work.old }
@@ -33,7 +34,7 @@ impl Row {
 }
 
 // Whether admit is refused, in the paper's order.
-#[tactic(auto, using(crate::proofs::LentRows::beyond_refuses, crate::proofs::LentRows::lent_refuses, crate::proofs::LentRows::lent_passes, crate::proofs::LentRows::some_card), unfolding(crate::specs::Refusals::admit_refusal, crate::specs::Refusals::admit_rows, crate::specs::Refusals::payload_wrong, terms::specs::Reply::first_row))]
+#[tactic(auto, using(crate::proofs::LentRows::beyond_refuses, crate::proofs::LentRows::lent_refuses, crate::proofs::LentRows::lent_passes, crate::proofs::Within::within), unfolding(crate::specs::Refusals::admit_refusal, crate::specs::Refusals::admit_rows, crate::specs::Refusals::payload_wrong, terms::specs::Reply::first_row))]
 fn admit_check(
     state: State,
     survey: Survey,

@@ -16,6 +16,7 @@ use terms::Refusal;
 
 impl Row {
     // Copies the units that the record read, ascending, to the front of the result buffer.
+    #[tactic(auto, using(crate::proofs::Within::within))]
     fn hand_over(self, mask: u64, work: &[u8], res: &mut [u8])
         requires { Keeping self.of.state mask res.old work.now }
         ensures { res.new ≡ hand_over self.of.state self.number mask work.now res.old }

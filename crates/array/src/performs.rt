@@ -61,7 +61,7 @@ impl Standing {
     }
 
     // Where the exclusive or goes: to the read block of X in graph 2, else to the last block to write.
-    #[tactic(auto, unfolding(crate::specs::Stepping::sum_at))]
+    #[tactic(auto, using(crate::proofs::Within::within), unfolding(crate::specs::Stepping::sum_at))]
     fn sum_at(self) -> usize
         ensures { result ≡ sum_at self.row.of.state self.row.number self.r }
     {
@@ -73,6 +73,7 @@ impl Standing {
     }
 
     // Adds up the blocks that the record's graph takes.
+    #[tactic(auto, using(crate::proofs::Within::within))]
     fn sum(self, work: &mut [u8], image: &[u8])
         requires { Lengths self.row.of.state work.old image.now }
         ensures { work.new ≡ work_after self.row.of.state self.row.number self.r xr work.old image.now }

@@ -33,6 +33,7 @@ fn offset(row: u64, width: u64, column: u64, block: u64) -> usize
 
 impl Legal {
     // The bytes of an image.
+    #[tactic(auto, using(crate::proofs::Within::within, crate::proofs::Within::products), unfolding(geometry::specs::Store::image_size))]
     pub(crate) fn image_size(self) -> usize
         ensures { result ≡ image_size self.state.cards self.state.stripes self.state.block }
     {
@@ -40,6 +41,7 @@ impl Legal {
     }
 
     // The bytes of a work store.
+    #[tactic(auto, using(crate::proofs::Within::within, crate::proofs::Within::products), unfolding(geometry::specs::Store::work_size))]
     pub(crate) fn work_size(self) -> usize
         ensures { result ≡ work_size self.state.cards self.state.block self.state.records }
     {
@@ -47,6 +49,7 @@ impl Legal {
     }
 
     // Where the block of a card and a stripe starts in the image.
+    #[tactic(auto, using(crate::proofs::Within::within), unfolding(geometry::specs::Store::cell_at))]
     pub(crate) fn cell_at(self, card: u64, stripe: u64) -> usize
         requires { (card < self.state.cards) × (stripe < self.state.stripes) }
         ensures { result ≡ cell_at self.state.stripes self.state.block card stripe }
@@ -68,6 +71,7 @@ impl Legal {
 
 impl Row {
     // Where its block to write of a position starts in the work store.
+    #[tactic(auto, using(crate::proofs::Within::within), unfolding(geometry::specs::Store::write_at))]
     pub(crate) fn write_at(self, position: u64) -> usize
         requires { position < self.of.state.cards }
         ensures { result ≡ write_at self.of.state.cards self.of.state.block self.number position }
@@ -77,6 +81,7 @@ impl Row {
     }
 
     // Where its block read of a position starts in the work store.
+    #[tactic(auto, using(crate::proofs::Within::within), unfolding(geometry::specs::Store::read_at))]
     pub(crate) fn read_at(self, position: u64) -> usize
         requires { position < self.of.state.cards }
         ensures { result ≡ read_at self.of.state.cards self.of.state.block self.number position }

@@ -61,7 +61,7 @@ impl Legal {
     }
 
     // m·B, with m the number of ones in the mask.
-    #[tactic(auto, unfolding(crate::specs::Lent::unit_bytes))]
+    #[tactic(auto, using(crate::proofs::Within::products), unfolding(crate::specs::Lent::unit_bytes))]
     pub(crate) fn unit_bytes(self, mask: u64) -> usize
         ensures { result ≡ unit_bytes self.state mask }
     {

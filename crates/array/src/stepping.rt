@@ -19,7 +19,7 @@ use record::{Look, Record, Survey};
 use terms::Refusal;
 
 // Whether step is refused, in the paper's order. What a look at the record finds is given, and what step k does.
-#[tactic(auto, using(crate::proofs::LentRows::beyond_refuses, crate::proofs::LentRows::lent_refuses, crate::proofs::LentRows::lent_passes, crate::proofs::LentRows::some_card), unfolding(crate::specs::Refusals::step_refusal, crate::specs::Refusals::step_rows, terms::specs::Reply::first_row))]
+#[tactic(auto, using(crate::proofs::LentRows::beyond_refuses, crate::proofs::LentRows::lent_refuses, crate::proofs::LentRows::lent_passes, crate::proofs::Within::within), unfolding(crate::specs::Refusals::step_refusal, crate::specs::Refusals::step_rows, terms::specs::Reply::first_row))]
 fn step_check(
     state: State,
     survey: Survey,

@@ -25,6 +25,7 @@ fn add_taken(sum: &mut [u8; 512], taken: u64, first: usize, cards: u64, size: us
 
 impl Row {
     // Puts the sum of the record's blocks, read and to write, into the work store at a place.
+    #[tactic(auto, using(crate::proofs::Within::within))]
     pub(crate) fn sum_blocks(self, reads: u64, news: u64, at: usize, work: &mut [u8])
         requires { length work.old ≡ work_size self.of.state.cards self.of.state.block self.of.state.records }
         ensures { work.new ≡ carried work.old at (block_sum self.of.state self.number reads news work.old) 0 self.of.state.block }

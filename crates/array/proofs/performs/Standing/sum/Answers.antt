@@ -10,12 +10,6 @@ use Rattle.array.proofs.Performed.{news_are, performed_sum, sum_room}
 use Rattle.array.proofs.StandingOf.{standing_of}
 use Rattle.array.proofs.performs.Standing.sum.Goals as goal
 
-pub overflow_sub-self : goal.overflow_sub-self
-overflow_sub-self c = omega (arith, state_bounds c.args.self.row.of.state c.args.self.row.of.limits)
-
-pub sum_blocks-requires : goal.sum_blocks-requires
-sum_blocks-requires c = c.requires.work_right
-
 pub returns : goal.returns
 returns c =
     let a = c.args in

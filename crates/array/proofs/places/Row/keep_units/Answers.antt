@@ -8,14 +8,8 @@ use Rattle.array.proofs.Units.{turned_none, turned_pass, turned_all, keep_room, 
 use Rattle.array.proofs.places.Row.keep_units.Goals as goal
 use Rattle.array.proofs.places.Row.keep_units.Goals.{then-mask-u-eq1, else-mask-u-eq1}
 
-pub overflow_sub-u-end : goal.overflow_sub-u-end
-overflow_sub-u-end c = omega (arith, state_bounds c.args.self.of.state c.args.self.of.limits)
-
 pub loop-u-init : goal.loop-u-init
 loop-u-init c = turned_none _ _ _ _ _
-
-pub overflow_shr-mask : goal.overflow_shr-mask
-overflow_shr-mask c = omega (arith, state_bounds c.args.self.of.state c.args.self.of.limits)
 
 pub overflow_add-from : goal.overflow_add-from
 overflow_add-from c =

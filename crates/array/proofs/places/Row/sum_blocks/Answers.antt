@@ -22,12 +22,6 @@ row_room N B first at bytes h e r =
     let q : N * B ≡ (N - 1) * B + B = ap (λ (k : ℕ). k * B) n ∙ m in
     omega (arith, e, q, r)
 
-pub read_at-read-requires : goal.read_at-read-requires
-read_at-read-requires c = omega (arith, state_bounds c.args.self.of.state c.args.self.of.limits)
-
-pub write_at-new-requires : goal.write_at-new-requires
-write_at-new-requires c = omega (arith, state_bounds c.args.self.of.state c.args.self.of.limits)
-
 pub add_taken-requires : goal.add_taken-requires
 add_taken-requires c =
     let row = c.args.self in
