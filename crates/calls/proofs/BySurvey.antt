@@ -1,68 +1,132 @@
--- A call that is given a survey of a lent table, or of the rest of it and the record at i, or its length, does what the lent call does of that table.
+-- A call that is given a survey of a lent table, or of the rest of it and the record at i, or its length, does what the lent call does of that
+-- table: an accepted one puts the changed record in its place, and a refused one leaves the table. And a call that hands back the state leaves a lent
+-- one where it is refused.
 -- Assumes nothing.
 use Prim.Native.Nat.{ℕ}
 use mathlib.Core.Bool.{Bool, cond}
 use mathlib.Core.List.{List}
-use mathlib.Core.Path.{◌≡◌, ap₂}
-use lib.Dec.{eqb}
+use mathlib.Core.Path.{◌≡◌, sym, ap, ap₂, ◌∙◌}
+use borrow.Author.Tests.{eqb-false}
 use lib.ListN.{length, get_or, set, replicate}
+use Rattle.std.specs.Prelude.{Result, Ok, Err, ⊤, is_ok}
+use Rattle.terms.specs.Reply.{Reply, refusal_reply, number_of, done_reply}
+use Rattle.terms.specs.declared.refusal.Refusal.{Refusal}
+use Rattle.terms.proofs.Answers.{number_not_0}
+use Rattle.geometry.specs.Fill.{Starting, StartingIs, StartedIs, starting}
+use Rattle.geometry.specs.Report.{Reporting, ReportingIs, ReportedIs, reporting}
 use Rattle.geometry.specs.declared.Geometry.{Geometry}
 use Rattle.geometry.specs.declared.State.{State}
-use Rattle.parity.specs.Scan.{Named, reply}
-use Rattle.parity.specs.declared.Scan.{Scan}
+use Rattle.parity.specs.Rest.{restored_in}
 use Rattle.record.proofs.Rest.{survey_whole}
 use Rattle.record.specs.Life.{free}
 use Rattle.record.specs.Survey.{survey_of, survey_but}
 use Rattle.record.specs.declared.Record.{Record}
-use Rattle.array.proofs.Outcomes.{rebuilding_written}
-use Rattle.array.specs.Admission.{admission_by, admission}
-use Rattle.array.specs.Answers.{opened_reply}
-use Rattle.array.specs.Collection.{collection_by, collection}
+use Rattle.array.proofs.Admissions.{admit_number_law, admit_refused}
+use Rattle.array.proofs.Collections.{collect_number_law, collect_refused}
+use Rattle.array.proofs.Openings.{open_number_law, open_refused}
+use Rattle.array.proofs.Rebuildings.{rebuild_number_law, rebuild_refused}
+use Rattle.array.proofs.Reports.{report_number, report_refused}
+use Rattle.array.proofs.Starts.{start_number, start_refused}
+use Rattle.array.proofs.Steppings.{step_number_law, step_refused}
+use Rattle.array.specs.Admission.{Admission, admission_by, admission}
+use Rattle.array.specs.Collection.{Collection, collection_by, collection}
 use Rattle.array.specs.Opening.{opening_by, opening}
-use Rattle.array.specs.Outcomes.{OpeningIs, AdmissionIs, SteppingIs, CollectionIs, RebuildingSaid, written_by}
-use Rattle.array.specs.Rebuilding.{rebuilding_by, rebuilding}
+use Rattle.array.specs.Rebuilding.{Rebuilding, rebuilding_by, rebuilding}
 use Rattle.array.specs.Scan.{scan_reply_by, scan_reply}
-use Rattle.array.specs.Stepping.{stepping_by, stepping}
-use Rattle.array.specs.declared.answers.Admission as by-admit
-use Rattle.array.specs.declared.answers.Collection as by-collect
-use Rattle.array.specs.declared.answers.Opening as by-open
-use Rattle.array.specs.declared.answers.Rebuilding as by-rebuild
-use Rattle.array.specs.declared.answers.Stepping as by-step
+use Rattle.array.specs.Stepping.{Stepping, stepping_by, stepping}
+use Rattle.array.specs.Outcomes.{OpeningIs, AdmissionIs, SteppingIs, CollectionIs, RebuildingSaid}
+use Rattle.array.specs.declared.answers.Changed.{Changed}
+use Rattle.array.specs.declared.answers.Filled.{Filled}
+use Rattle.array.specs.declared.answers.Stepped.{Stepped}
 use Rattle.calls.specs.Lent.{OpeningLent, AdmissionLent, SteppingLent, CollectionLent, RebuildingLent}
 
+-- what is refused has another number than 0
+refuses : (e : Refusal) {r : Reply} {n : ℕ} → refusal_reply e ≡ r → r.number ≡ n → ¬ (n ≡ 0)
+refuses e same number z = eqb-false (number_of e) 0 (number_not_0 e) (ap (λ (r : Reply). r.number) same ∙ number ∙ z)
+
+-- what a call that hands back a changed record answers, and the table that it leaves
+module _ {A : Type 0} where
+  abbrev answer_of : Result (Changed A) Refusal → Result A Refusal
+  answer_of (Ok c) = Ok c.answer
+  answer_of (Err e) = Err e
+
+  abbrev table_after : List Record → Result (Changed A) Refusal → List Record
+  table_after l (Ok c) = set l c.place c.«record»
+  table_after l (Err e) = l
+
 module _ (l : List Record) where
-  pub open_lent : (g : Geometry) (out : ℕ) (work image : List ℕ) (o : by-open.Opening) → OpeningIs (opening_by g out (length l) work image) o
-      → OpeningLent (opening g out l work image) o.answer o.state (cond (eqb (opened_reply o.answer).number 0) (replicate (length l) free) l)
+  -- the records are freed where the opening is accepted
+  pub open_lent : (g : Geometry) (out : ℕ) (work image : List ℕ) (o : Result State Refusal) (accepts : Bool) (t : List Record)
+      → OpeningIs (opening_by g out (length l) work image) o → accepts ≡ is_ok o → t ≡ cond accepts (replicate (length l) free) l
+      → OpeningLent (opening g out l work image) o t
   unfolding opening
-  open_lent g out work image o is = record { reply = is.reply; answered = is.answer; new_state = is.state; table_left = rw is.reply }
+  open_lent g out work image (Ok s) accepts t is e frees =
+      record { reply = is.reply; new_state = is.state; table_left = frees ∙ rw (e, ap (λ (r : Reply). r.number) (sym is.reply)) }
+  open_lent g out work image (Err r) accepts t is e frees =
+      let left = open_refused g out l work image (refuses r is.reply (open_number_law g out l work image)) in
+      record { reply = is.reply; new_state = is.state; table_left = frees ∙ rw e (sym left.1) }
 
   module _ (st : State) where
-    pub admit_lent : (work image : List ℕ) (write : Bool) (s mask : ℕ) (payload : List ℕ) (o : by-admit.Admission) (w : List ℕ) → AdmissionIs (admission_by st (survey_but st l 8) work image write s mask payload) o w
-        → AdmissionLent (admission st l work image write s mask payload) o.answer (set l o.place o.«record») w
+    pub admit_lent : (work image : List ℕ) (write : Bool) (s mask : ℕ) (payload : List ℕ) (o : Result (Changed ℕ) Refusal) (w : List ℕ)
+        → AdmissionIs (admission_by st (survey_but st l 8) work image write s mask payload) o w
+        → AdmissionLent (admission st l work image write s mask payload) (answer_of o) (table_after l o) w
     unfolding admission
     admit_lent work image write s mask payload o w before =
-        let is : AdmissionIs (admission_by st (survey_of st l) work image write s mask payload) o w = rw (survey_whole st l) at before in
-        record { reply = is.reply; answered = is.answer; table_left = ap₂ (set l) is.place is.stands; work_left = is.work_left }
+        go o (rw (survey_whole st l) at before)
+      where
+        go : (o : Result (Changed ℕ) Refusal) → AdmissionIs (admission_by st (survey_of st l) work image write s mask payload) o w
+            → AdmissionLent (admission st l work image write s mask payload) (answer_of o) (table_after l o) w
+        go (Ok c) is = record { reply = is.reply; table_left = ap₂ (set l) is.changed.0 is.changed.1; work_left = is.work_left }
+        go (Err e) is =
+            let left = admit_refused st l work image write s mask payload (refuses e is.reply (admit_number_law st l work image write s mask payload)) in
+            record { reply = is.reply; table_left = sym (ap (λ (d : Admission). d.table) left); work_left = is.work_left }
 
-    pub step_lent : (work image : List ℕ) (i k : ℕ) (o : by-step.Stepping) (w m : List ℕ) → SteppingIs (stepping_by st (survey_but st l i) (get_or l i free) work image i k) o w m
-        → SteppingLent (stepping st l work image i k) o.answer (set l o.place o.«record») w m
+    pub step_lent : (work image : List ℕ) (i k : ℕ) (o : Result (Changed Stepped) Refusal) (w m : List ℕ)
+        → SteppingIs (stepping_by st (survey_but st l i) (get_or l i free) work image i k) o w m
+        → SteppingLent (stepping st l work image i k) (answer_of o) (table_after l o) w m
     unfolding stepping
-    step_lent work image i k o w m is = record { reply = is.reply; answered = is.answer; table_left = ap₂ (set l) is.place is.stands; work_left = is.work_left; image_left = is.image_left }
+    step_lent work image i k (Ok c) w m is =
+        record { reply = is.reply; answered = is.answered; table_left = ap₂ (set l) is.changed.0 is.changed.1; work_left = is.work_left; image_left = is.image_left }
+    step_lent work image i k (Err e) w m is =
+        let left = step_refused st l work image i k (refuses e is.reply (step_number_law st l work image i k)) in
+        record { reply = is.reply; answered = tt; table_left = sym (ap (λ (d : Stepping). d.table) left); work_left = is.work_left; image_left = is.image_left }
 
-    pub collect_lent : (work : List ℕ) (i : ℕ) (result : List ℕ) (o : by-collect.Collection) (m : List ℕ) → CollectionIs (collection_by st (survey_but st l i) (get_or l i free) work i result) o m
-        → CollectionLent (collection st l work i result) o.answer (set l o.place o.«record») m
+    pub collect_lent : (work : List ℕ) (i : ℕ) (result : List ℕ) (o : Result (Changed ℕ) Refusal) (m : List ℕ)
+        → CollectionIs (collection_by st (survey_but st l i) (get_or l i free) work i result) o m
+        → CollectionLent (collection st l work i result) (answer_of o) (table_after l o) m
     unfolding collection
-    collect_lent work i result o m is = record { reply = is.reply; answered = is.answer; table_left = ap₂ (set l) is.place is.stands; result_left = is.result_left }
+    collect_lent work i result (Ok c) m is = record { reply = is.reply; table_left = ap₂ (set l) is.changed.0 is.changed.1; result_left = is.result_left }
+    collect_lent work i result (Err e) m is =
+        let left = collect_refused st l work i result (refuses e is.reply (collect_number_law st l work i result)) in
+        record { reply = is.reply; table_left = sym (ap (λ (d : Collection). d.table) left); result_left = is.result_left }
 
-    pub scan_lent : (image : List ℕ) (r : Scan) → (reply r ≡ scan_reply_by st (survey_but st l 8) image) × Named r → (reply r ≡ scan_reply st l image) × Named r
+    pub scan_lent : (image : List ℕ) (r : Result ⊤ Refusal) → done_reply r ≡ scan_reply_by st (survey_but st l 8) image → done_reply r ≡ scan_reply st l image
     unfolding scan_reply
     scan_lent image r is = rw (survey_whole st l) at is
 
-    -- a rebuild step that said this, and then wrote its block
-    pub rebuild_lent : (image : List ℕ) (o : by-rebuild.Rebuilding) (m : List ℕ) → RebuildingSaid (rebuilding_by st (survey_but st l 8) image) o
-        → m ≡ written_by st o.answer image → RebuildingLent (rebuilding st l image) o.answer o.state m
+    -- a rebuild step that says this, and then writes its block
+    pub rebuild_lent : (image : List ℕ) (f : Filled) (m : List ℕ) → RebuildingSaid (rebuilding_by st (survey_but st l 8) image) st image (Ok f)
+        → m ≡ restored_in st image st.out f.stripe → RebuildingLent (rebuilding st l image) (Ok f.stripe) f.state m
     unfolding rebuilding
-    rebuild_lent image o m before written =
-        let said : RebuildingSaid (rebuilding_by st (survey_of st l) image) o = rw (survey_whole st l) at before in
-        let is = rebuilding_written st (survey_of st l) image o said m written in
-        record { reply = is.reply; answered = is.answer; state_left = is.state; image_left = is.image_left }
+    rebuild_lent image f m before written =
+        let is : RebuildingSaid (rebuilding_by st (survey_of st l) image) st image (Ok f) = rw (survey_whole st l) at before in
+        record { reply = is.reply; state_left = is.filled.0; image_left = written ∙ is.filled.1 }
+
+    -- one that is refused
+    pub rebuild_kept : (image : List ℕ) (e : Refusal) → RebuildingSaid (rebuilding_by st (survey_but st l 8) image) st image (Err e)
+        → RebuildingLent (rebuilding st l image) (Err e) st image
+    unfolding rebuilding
+    rebuild_kept image e before =
+        let is : RebuildingSaid (rebuilding_by st (survey_of st l) image) st image (Err e) = rw (survey_whole st l) at before in
+        let left = rebuild_refused st l image (refuses e is.reply (rebuild_number_law st l image)) in
+        record { reply = is.reply; state_left = sym (ap (λ (d : Rebuilding). d.state) left); image_left = sym (ap (λ (d : Rebuilding). d.image) left) }
+
+-- ---- the state, where it is lent
+
+pub report_kept : (st : State) (c : ℕ) (e : Refusal) → ReportedIs (reporting st c) (Err e) → ReportingIs (reporting st c) (Err e) st
+report_kept st c e is =
+    record { reply = is.reply; state_left = sym (ap (λ (d : Reporting). d.state) (report_refused st c (refuses e is.reply (report_number st c)))) }
+
+pub start_kept : (st : State) (e : Refusal) → StartedIs (starting st) (Err e) → StartingIs (starting st) (Err e) st
+start_kept st e is =
+    record { reply = is.reply; state_left = sym (ap (λ (d : Starting). d.state) (start_refused st (refuses e is.reply (start_number st)))) }

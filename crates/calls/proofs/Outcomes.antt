@@ -1,119 +1,170 @@
--- Any two outcomes that a contract allows are equal: of each call, lent the table and by value, and of each function below them whose contract
+-- Any two outcomes that a contract allows are equal: of each call, lent the table and by a survey, and of each function below them whose contract
 -- gives its answer by a reply. docs/OUTCOMES.md lists them.
 -- Assumes nothing.
 use Prim.Native.Nat.{ℕ}
 use mathlib.Core.List.{List}
-use mathlib.Core.Path.{◌≡◌, refl, sym, ap, ap₂, ◌∙◌}
-use Rattle.std.proofs.Common.{Option, Some, None}
-use Rattle.terms.specs.Reply.{Reply}
+use mathlib.Core.Path.{◌≡◌, refl, sym, ap, ◌∙◌}
+use borrow.Author.Tests.{eqb-false}
+use Rattle.std.specs.Prelude.{Option, Some, None, Result, Ok, Err, ⊤, IfOk}
+use Rattle.terms.specs.Reply.{Reply, accepted, number_of, reply_of, done_reply}
+use Rattle.terms.specs.declared.refusal.Refusal.{Refusal}
+use Rattle.terms.proofs.Answers.{number_not_0, refusal_named, done_named, value_named}
 use Rattle.geometry.specs.Answers.{placed_reply, held_reply}
-use Rattle.geometry.specs.Fill.{Starting, StartingIs}
-use Rattle.geometry.specs.Report.{Reporting, ReportingIs}
+use Rattle.geometry.specs.Fill.{Starting, StartingIs, StartedIs}
+use Rattle.geometry.specs.Report.{Reporting, ReportingIs, ReportedIs}
 use Rattle.geometry.specs.declared.Held.{Held}
 use Rattle.geometry.specs.declared.Placed.{Placed}
 use Rattle.geometry.specs.declared.State.{State}
-use Rattle.geometry.specs.declared.fill.Started.{Started}
-use Rattle.geometry.specs.declared.report.Reported.{Reported}
 use Rattle.geometry.proofs.Single.{placed_one, held_one}
 use Rattle.graph.specs.Asked.{action_step}
 use Rattle.graph.specs.Steps.{Step, rd, xr, wr, nil}
 use Rattle.graph.specs.declared.steps.Action.{Action}
 use Rattle.graph.specs.declared.steps.Action.TheVariants as action
-use Rattle.parity.specs.Scan.{Named, reply, scan_of}
-use Rattle.parity.specs.declared.Scan.{Scan}
+use Rattle.parity.specs.Rest.{restored_in}
 use Rattle.record.specs.declared.Record.{Record}
 use Rattle.array.specs.Admission.{AdmissionBy, Admission}
+use Rattle.array.specs.Answers.{step_values}
 use Rattle.array.specs.Collection.{CollectionBy, Collection}
 use Rattle.array.specs.Opening.{OpeningBy, Opening}
-use Rattle.array.specs.Outcomes.{OpeningIs, AdmissionIs, SteppingIs, CollectionIs, RebuildingIs}
+use Rattle.array.specs.Outcomes.{opened_state, OpeningIs, AdmissionIs, SteppingIs, CollectionIs, RebuildingSaid}
 use Rattle.array.specs.Rebuilding.{Rebuilding}
 use Rattle.array.specs.Stepping.{SteppingBy, Stepping}
-use Rattle.array.specs.declared.answers.Admission as by-admit
-use Rattle.array.specs.declared.answers.Admitted.{Admitted}
-use Rattle.array.specs.declared.answers.Collected.{Collected}
-use Rattle.array.specs.declared.answers.Collection as by-collect
-use Rattle.array.specs.declared.answers.Opened.{Opened}
-use Rattle.array.specs.declared.answers.Opening as by-open
-use Rattle.array.specs.declared.answers.Rebuilding as by-rebuild
-use Rattle.array.specs.declared.answers.Rebuilt.{Rebuilt}
+use Rattle.array.specs.declared.answers.Changed.{Changed}
+use Rattle.array.specs.declared.answers.Filled.{Filled}
 use Rattle.array.specs.declared.answers.Stepped.{Stepped}
-use Rattle.array.specs.declared.answers.Stepping as by-step
+use Rattle.array.specs.declared.answers.Stepped.TheVariants as stepped
 use Rattle.calls.specs.Lent.{OpeningLent, AdmissionLent, SteppingLent, CollectionLent, RebuildingLent}
+
+-- two answers of one reply are equal where accepted ones are of which something more is known
+module _ {A : Type 0} {said : A → Reply} (accepts : (a : A) → (said a).number ≡ 0) {P : A → Type 0} (one : (a b : A) → said a ≡ said b → P a → P b → a ≡ b) where
+  apart : (a : A) (r : Refusal) → (said a).number ≡ number_of r → ⊥
+  apart a r e = eqb-false (number_of r) 0 (number_not_0 r) (sym e ∙ accepts a)
+
+  same : (a b : Result A Refusal) {r : Reply} → reply_of said a ≡ r → reply_of said b ≡ r → IfOk a P → IfOk b P → a ≡ b
+  same (Ok a) (Ok b) e f p q = ap Ok (one a b (e ∙ sym f) p q)
+  same (Ok a) (Err s) e f p q = absurd (apart a s (ap (λ (x : Reply). x.number) (e ∙ sym f)))
+  same (Err r) (Ok b) e f p q = absurd (apart b r (ap (λ (x : Reply). x.number) (f ∙ sym e)))
+  same (Err r) (Err s) e f p q = ap Err (refusal_named r s (e ∙ sym f))
+
+step_accepts : (a : Stepped) → (step_values a).number ≡ 0
+step_accepts stepped.Done = refl
+step_accepts (stepped.Chosen g) = refl
+
+-- the same state, the same record at the same place after the same answer, and the same state after the same stripe
+state_one : {s : State} (a b : State) → accepted 0 0 ≡ accepted 0 0 → a ≡ s → b ≡ s → a ≡ b
+state_one a b e p q = p ∙ sym q
+
+opened : (a : Result State Refusal) {s : State} → opened_state a ≡ s → IfOk a (λ b. b ≡ s)
+unfolding opened_state
+opened (Ok a) e = e
+opened (Err r) e = tt
+
+module _ {A : Type 0} where
+  three : (made : A → ℕ → Record → Changed A) {u v : A} {i j : ℕ} {r s : Record} → u ≡ v → i ≡ j → r ≡ s → made u i r ≡ made v j s
+  three made e p q = cc
+
+  changed : (a b : Changed A) → a.answer ≡ b.answer → a.place ≡ b.place → a.«record» ≡ b.«record» → a ≡ b
+  changed a b e p q = three (λ x i r. record { answer = x; place = i; «record» = r }) e p q
+
+value_changed : {i : ℕ} {r : Record} (a b : Changed ℕ) → accepted a.answer 0 ≡ accepted b.answer 0
+    → (a.place ≡ i) × (a.«record» ≡ r) → (b.place ≡ i) × (b.«record» ≡ r) → a ≡ b
+value_changed a b e p q = changed a b (ap (λ (x : Reply). x.first) e) (p.0 ∙ sym q.0) (p.1 ∙ sym q.1)
 
 -- ---- the calls, lent the table
 
-module _ {d : Opening} {a b : Opened} {s z : State} {t u : List Record} where
-  pub open_one : OpeningLent d a s t → OpeningLent d b z u → (a ≡ b) × (s ≡ z) × (t ≡ u)
-  open_one p q = (cc, cc, cc)
+module _ {d : Opening} {a b : Result State Refusal} {t u : List Record} where
+  pub open_one : OpeningLent d a t → OpeningLent d b u → (a ≡ b) × (t ≡ u)
+  open_one p q = (same (λ a. refl) state_one a b p.reply q.reply (opened a p.new_state) (opened b q.new_state), cc)
 
-module _ {d : Admission} {a b : Admitted} {t u : List Record} {v w : List ℕ} where
+module _ {d : Admission} {a b : Result ℕ Refusal} {t u : List Record} {v w : List ℕ} where
   pub admit_one : AdmissionLent d a t v → AdmissionLent d b u w → (a ≡ b) × (t ≡ u) × (v ≡ w)
-  admit_one p q = (cc, cc, cc)
+  admit_one p q = (value_named a b (p.reply ∙ sym q.reply), cc, cc)
 
-module _ {d : Stepping} {a b : Stepped} {t u : List Record} {v w m n : List ℕ} where
+module _ {d : Stepping} {a b : Result Stepped Refusal} {t u : List Record} {v w m n : List ℕ} where
   pub step_one : SteppingLent d a t v m → SteppingLent d b u w n → (a ≡ b) × (t ≡ u) × (v ≡ w) × (m ≡ n)
-  step_one p q = (cc, cc, cc, cc)
+  step_one p q = (same step_accepts (λ a b e f g. f ∙ sym g) a b p.reply q.reply p.answered q.answered, cc, cc, cc)
 
-module _ {d : Collection} {a b : Collected} {t u : List Record} {m n : List ℕ} where
+module _ {d : Collection} {a b : Result ℕ Refusal} {t u : List Record} {m n : List ℕ} where
   pub collect_one : CollectionLent d a t m → CollectionLent d b u n → (a ≡ b) × (t ≡ u) × (m ≡ n)
-  collect_one p q = (cc, cc, cc)
+  collect_one p q = (value_named a b (p.reply ∙ sym q.reply), cc, cc)
 
-module _ {d : Rebuilding} {a b : Rebuilt} {s z : State} {m n : List ℕ} where
+module _ {d : Rebuilding} {a b : Result ℕ Refusal} {s z : State} {m n : List ℕ} where
   pub rebuild_one : RebuildingLent d a s m → RebuildingLent d b z n → (a ≡ b) × (s ≡ z) × (m ≡ n)
-  rebuild_one p q = (cc, cc, cc)
+  rebuild_one p q = (value_named a b (p.reply ∙ sym q.reply), cc, cc)
 
--- report and start, lent the state and by value
-module _ {d : Reporting} {a b : Reported} {s z : State} where
+-- report and start, lent the state
+module _ {d : Reporting} {a b : Result ⊤ Refusal} {s z : State} where
   pub report_one : ReportingIs d a s → ReportingIs d b z → (a ≡ b) × (s ≡ z)
-  report_one p q = (cc, cc)
+  report_one p q = (done_named a b (p.reply ∙ sym q.reply), cc)
 
-module _ {d : Starting} {a b : Started} {s z : State} where
+module _ {d : Starting} {a b : Result ⊤ Refusal} {s z : State} where
   pub start_one : StartingIs d a s → StartingIs d b z → (a ≡ b) × (s ≡ z)
-  start_one p q = (cc, cc)
+  start_one p q = (done_named a b (p.reply ∙ sym q.reply), cc)
 
 -- a scan: of an open array, of one with nothing open, and with stripes to pass over
-module _ {r : Reply} {a b : Scan} where
-  pub scan_one : (reply a ≡ r) × Named a → (reply b ≡ r) × Named b → a ≡ b
-  scan_one p q = sym p.1 ∙ ap scan_of (p.0 ∙ sym q.0) ∙ q.1
+module _ {r : Reply} {a b : Result ⊤ Refusal} where
+  pub scan_one : done_reply a ≡ r → done_reply b ≡ r → a ≡ b
+  scan_one p q = done_named a b (p ∙ sym q)
 
--- ---- the calls by a survey, and over a table by value
+-- ---- the calls by a survey, and report and start by value
 
-module _ {d : OpeningBy} {o r : by-open.Opening} where
-  pub open_value_one : OpeningIs d o → OpeningIs d r → o ≡ r
-  open_value_one p q =
-      let made : Opened → State → by-open.Opening = λ a s. record { answer = a; state = s } in
-      ap₂ made (p.answer ∙ sym q.answer) (p.state ∙ sym q.state)
+module _ {d : OpeningBy} {a b : Result State Refusal} where
+  pub open_value_one : OpeningIs d a → OpeningIs d b → a ≡ b
+  open_value_one p q = same (λ a. refl) state_one a b p.reply q.reply (opened a p.state) (opened b q.state)
 
--- the answers, the places and the records are equal, and so are the three together
-module _ {A : Type 0} {D : Type 0} (made : A → ℕ → Record → D) {a b : A} {i j : ℕ} {x y : Record} where
-  three : a ≡ b → i ≡ j → x ≡ y → made a i x ≡ made b j y
-  three p q r = cc
+module _ {d : Reporting} {a b : Result State Refusal} where
+  pub report_value_one : ReportedIs d a → ReportedIs d b → a ≡ b
+  report_value_one p q = same (λ a. refl) state_one a b p.reply q.reply p.state_left q.state_left
 
-module _ {d : AdmissionBy} {o r : by-admit.Admission} {v w : List ℕ} where
-  pub admit_value_one : AdmissionIs d o v → AdmissionIs d r w → (o ≡ r) × (v ≡ w)
-  admit_value_one p q = (three (λ a i x. record { answer = a; place = i; «record» = x }) (cc) (cc) (cc), cc)
+module _ {d : Starting} {a b : Result State Refusal} where
+  pub start_value_one : StartedIs d a → StartedIs d b → a ≡ b
+  start_value_one p q = same (λ a. refl) state_one a b p.reply q.reply p.state_left q.state_left
 
-module _ {d : SteppingBy} {o r : by-step.Stepping} {v w m n : List ℕ} where
-  pub step_value_one : SteppingIs d o v m → SteppingIs d r w n → (o ≡ r) × (v ≡ w) × (m ≡ n)
-  step_value_one p q = (three (λ a i x. record { answer = a; place = i; «record» = x }) (cc) (cc) (cc), cc, cc)
+module _ {d : AdmissionBy} {a b : Result (Changed ℕ) Refusal} {v w : List ℕ} where
+  pub admit_value_one : AdmissionIs d a v → AdmissionIs d b w → (a ≡ b) × (v ≡ w)
+  admit_value_one p q = (same (λ a. refl) value_changed a b p.reply q.reply p.changed q.changed, cc)
 
-module _ {d : CollectionBy} {o r : by-collect.Collection} {m n : List ℕ} where
-  pub collect_value_one : CollectionIs d o m → CollectionIs d r n → (o ≡ r) × (m ≡ n)
-  collect_value_one p q = (three (λ a i x. record { answer = a; place = i; «record» = x }) (cc) (cc) (cc), cc)
+module _ {d : SteppingBy} {a b : Result (Changed Stepped) Refusal} {v w m n : List ℕ} where
+  pub step_value_one : SteppingIs d a v m → SteppingIs d b w n → (a ≡ b) × (v ≡ w) × (m ≡ n)
+  step_value_one p q = (
+    same (λ a. step_accepts a.answer) (λ a b e f g. changed a b (f.0 ∙ sym g.0) (f.1.0 ∙ sym g.1.0) (f.1.1 ∙ sym g.1.1))
+        a b p.reply q.reply (both a _ _ p.answered p.changed) (both b _ _ q.answered q.changed),
+    cc,
+    cc,
+  )
+    where
+      both : (a : Result (Changed Stepped) Refusal) (P Q : Changed Stepped → Type 0) → IfOk a P → IfOk a Q → IfOk a (λ c. P c × Q c)
+      both (Ok c) P Q x y = (x, y)
+      both (Err r) P Q x y = tt
 
-module _ {d : Rebuilding} {o r : by-rebuild.Rebuilding} {m n : List ℕ} where
-  pub rebuild_value_one : RebuildingIs d o m → RebuildingIs d r n → (o ≡ r) × (m ≡ n)
-  rebuild_value_one p q =
-      let made : Rebuilt → State → by-rebuild.Rebuilding = λ a s. record { answer = a; state = s } in
-      (ap₂ made (p.answer ∙ sym q.answer) (p.state ∙ sym q.state), cc)
+module _ {d : CollectionBy} {a b : Result (Changed ℕ) Refusal} {m n : List ℕ} where
+  pub collect_value_one : CollectionIs d a m → CollectionIs d b n → (a ≡ b) × (m ≡ n)
+  collect_value_one p q = (same (λ a. refl) value_changed a b p.reply q.reply p.changed q.changed, cc)
+
+-- a rebuild step, and then its block written
+filled : (made : ℕ → State → Filled) {s z : ℕ} {t u : State} → s ≡ z → t ≡ u → made s t ≡ made z u
+filled made p q = cc
+
+-- the image that a rebuild step of this answer leaves
+abbrev written : State → List ℕ → Result Filled Refusal → List ℕ
+written st image (Ok f) = restored_in st image st.out f.stripe
+written st image (Err r) = image
+
+module _ {d : Rebuilding} {st : State} {image m n : List ℕ} {a b : Result Filled Refusal} where
+  pub rebuild_value_one : RebuildingSaid d st image a → m ≡ written st image a → RebuildingSaid d st image b → n ≡ written st image b → (a ≡ b) × (m ≡ n)
+  rebuild_value_one p k q l =
+      let answers : a ≡ b =
+      same (λ a. refl) (λ a b e f g. filled (λ s t. record { stripe = s; state = t }) (ap (λ (x : Reply). x.first) e) (f.0 ∙ sym g.0))
+      a b p.reply q.reply p.filled q.filled in
+      (answers, k ∙ ap (written st image) answers ∙ sym l)
 
 -- ---- placement, and what a step does
 
 module _ {r : Reply} where
-  pub place_one : (a b : Placed) → placed_reply a ≡ r → placed_reply b ≡ r → a ≡ b
+  pub place_one : (a b : Result Placed Refusal) → placed_reply a ≡ r → placed_reply b ≡ r → a ≡ b
   place_one a b p q = placed_one a b (p ∙ sym q)
 
-  pub block_at_one : (a b : Held) → held_reply a ≡ r → held_reply b ≡ r → a ≡ b
+  pub block_at_one : (a b : Result Held Refusal) → held_reply a ≡ r → held_reply b ≡ r → a ≡ b
   block_at_one a b p q = held_one a b (p ∙ sym q)
 
 -- what a step does, of the graphs

@@ -1,10 +1,12 @@
-// The calls as the caller makes them: lent the table of request records where it stands, and for a report, a start and a rebuild the state.
+// The calls as the caller makes them: lent the table of request records where it stands, and for a report, a start and a rebuild the state. A
+// refused call alters nothing that it is lent. (What is lent goes from call to call one by one: each lends by `&` what it leaves alone, which one struct of
+// all that is lent would not show.)
 // Assumes nothing.
 #![tactic(auto)]
 
-ghost use Rattle.std.specs.Prelude.{◌≡◌, eqb};
+ghost use Rattle.std.specs.Prelude.{◌≡◌, set};
+ghost use Rattle.terms.specs.Reply.{done_reply};
 ghost use Rattle.array.specs.Admission.{admission};
-ghost use Rattle.array.specs.Answers.{opened_reply};
 ghost use Rattle.array.specs.Collection.{collection};
 ghost use Rattle.array.specs.Opening.{opening};
 ghost use Rattle.array.specs.Rebuilding.{rebuilding};
@@ -13,41 +15,36 @@ ghost use Rattle.array.specs.Stepping.{stepping};
 ghost use Rattle.calls.specs.Lent.{OpeningLent, AdmissionLent, SteppingLent, CollectionLent, RebuildingLent};
 ghost use Rattle.geometry.specs.Fill.{StartingIs, starting};
 ghost use Rattle.geometry.specs.Report.{ReportingIs, reporting};
-ghost use Rattle.parity.specs.Scan.{Named, reply};
 
-use array::answers::{Admitted, Collected, Opened, Opening, Rebuilt, Stepped};
-use geometry::fill::Started;
-use geometry::report::Reported;
+use array::answers::{Changed, Stepped};
 use geometry::{Geometry, State};
-use parity::Scan;
 use record::Record;
 use table::{at, count, freed, replace, surveyed};
+use terms::Refusal;
 
-// Whether an opening is accepted.
-pub fn is_open(answer: Opened) -> bool
-    ensures { result ≡ eqb (opened_reply answer).number 0 }
+// Puts the record that a call changed in its place, and hands on what the call answers.
+fn put<A>(table: &mut [Record], changed: Changed<A>) -> A
+    ensures answer { result ≡ changed.answer }
+    ensures table { table.new ≡ set table.old changed.place changed.«record» }
 {
-    match answer {
-        Opened::Open => true,
-        Opened::Refused(number) => number == 0,
-        Opened::Disagrees(stripe, byte) => false,
-    }
+    replace(table, changed.place, changed.record);
+    changed.answer
 }
 
-// Opens an array: the answer and the new state, all zero if refused. Where it is accepted, every record is freed.
+// Opens an array: the new state. Where it is accepted, every record is freed.
 pub fn open(
     geometry: Geometry,
     out: u64,
     table: &mut [Record],
     work: &[u8],
     image: &[u8],
-) -> Opening
-    ensures { OpeningLent (opening geometry out table.old work.now image.now) result.answer result.state table.new }
+) -> Result<State, Refusal>
+    ensures { OpeningLent (opening geometry out table.old work.now image.now) result table.new }
 {
     let len = count(table);
-    let made = array::open_by(geometry, out, len, work, image);
-    freed(table, is_open(made.answer));
-    made
+    let opened = array::open_by(geometry, out, len, work, image);
+    freed(table, opened.is_ok());
+    opened
 }
 
 // Admits a request of a stripe and a mask of units, which takes the lowest free record.
@@ -60,13 +57,12 @@ pub fn admit(
     stripe: u64,
     mask: u64,
     payload: &[u8],
-) -> Admitted
+) -> Result<u64, Refusal>
     ensures { AdmissionLent (admission state table.old work.old image.now write stripe mask payload.now) result table.new work.new }
 {
     let survey = surveyed(table, state, 8);
-    let made = array::admit_by(state, survey, work, image, write, stripe, mask, payload);
-    replace(table, made.place, made.record);
-    made.answer
+    let changed = array::admit_by(state, survey, work, image, write, stripe, mask, payload)?;
+    Ok(put(table, changed))
 }
 
 // Does step k of record i, or chooses its graph afresh.
@@ -77,64 +73,67 @@ pub fn step(
     image: &mut [u8],
     i: u64,
     k: u64,
-) -> Stepped
+) -> Result<Stepped, Refusal>
     ensures { SteppingLent (stepping state table.old work.old image.old i k) result table.new work.new image.new }
 {
     let survey = surveyed(table, state, i);
     let r = at(table, i);
-    let made = array::step_by(state, survey, r, work, image, i, k);
-    replace(table, made.place, made.record);
-    made.answer
+    let changed = array::step_by(state, survey, r, work, image, i, k)?;
+    Ok(put(table, changed))
 }
 
 // Marks a card out, or the array lost, where the state stands.
-pub fn report(state: &mut State, card: u64) -> Reported
+#[tactic(auto, using(crate::proofs::BySurvey::report_kept))]
+pub fn report(state: &mut State, card: u64) -> Result<(), Refusal>
     ensures { ReportingIs (reporting state.old card) result state.new }
 {
-    let old = *state;
-    let made = old.report(card);
-    *state = made.state;
-    made.answer
+    *state = state.report(card)?;
+    Ok(())
 }
 
 // Begins a fill of the fresh card in the sleeve that is out, where the state stands.
-pub fn start(state: &mut State) -> Started
+#[tactic(auto, using(crate::proofs::BySurvey::start_kept))]
+pub fn start(state: &mut State) -> Result<(), Refusal>
     ensures { StartingIs (starting state.old) result state.new }
 {
-    let old = *state;
-    let made = old.start();
-    *state = made.state;
-    made.answer
+    *state = state.start()?;
+    Ok(())
 }
 
 // Collects finished record i, which is freed: a read's units go to the front of the result buffer.
-pub fn collect(state: State, table: &mut [Record], work: &[u8], i: u64, res: &mut [u8]) -> Collected
+pub fn collect(
+    state: State,
+    table: &mut [Record],
+    work: &[u8],
+    i: u64,
+    res: &mut [u8],
+) -> Result<u64, Refusal>
     ensures { CollectionLent (collection state table.old work.now i res.old) result table.new res.new }
 {
     let survey = surveyed(table, state, i);
     let r = at(table, i);
-    let made = array::collect_by(state, survey, r, work, i, res);
-    replace(table, made.place, made.record);
-    made.answer
+    let changed = array::collect_by(state, survey, r, work, i, res)?;
+    Ok(put(table, changed))
 }
 
 // Scans the stripes that no open request holds.
-pub fn scan(state: State, table: &[Record], image: &[u8]) -> Scan
-    ensures { (reply result ≡ scan_reply state table.now image.now) × Named result }
+#[tactic(auto, using(crate::proofs::BySurvey::scan_lent))]
+pub fn scan(state: State, table: &[Record], image: &[u8]) -> Result<(), Refusal>
+    ensures { done_reply result ≡ scan_reply state table.now image.now }
 {
     let survey = surveyed(table, state, 8);
     array::scan_by(state, survey, image)
 }
 
-// Fills the stripe at the fill place on the fresh card, and moves the fill on where the state stands.
-pub fn rebuild(state: &mut State, table: &[Record], image: &mut [u8]) -> Rebuilt
+// Fills the stripe at the fill place on the fresh card, and moves the fill on where the state stands. The state is stored before the block is
+// written, so that the next call need not wait for the block's way to its card.
+pub fn rebuild(state: &mut State, table: &[Record], image: &mut [u8]) -> Result<u64, Refusal>
     ensures { RebuildingLent (rebuilding state.old table.now image.old) result state.new image.new }
 {
     let old = *state;
     let survey = surveyed(table, old, 8);
-    let made = array::rebuild_next(old, survey, image);
-    *state = made.state;
-    let answer = made.answer;
-    array::rebuild_image(old, answer, image);
-    answer
+    let filled = array::rebuild_next(old, survey, image)?;
+    *state = filled.state;
+    array::rebuild_image(old, filled.stripe, image);
+    Ok(filled.stripe)
 }

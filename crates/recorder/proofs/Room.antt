@@ -1,7 +1,7 @@
--- Every answer of the functions has room in one packed number: a record is below 8, a graph at most 6, a count at most 2n+3 and so 17, a stripe at
--- most 1,024, the one that a rebuild step filled below, and a byte at most 512.
+-- Every answer of the functions has room in one packed number: a card and a record are below 8, a graph at most 6, a count at most 2n+3 and so 17, a
+-- stripe at most 1,024, the one that a rebuild step filled below, a byte at most 512, and a block's number is below 7,168.
 -- Assumes nothing.
-use Prim.Native.Nat.{ℕ, ◌+◌, ◌*◌, ◌≤◌}
+use Prim.Native.Nat.{ℕ, ◌+◌, ◌-◌, ◌*◌, ◌≤◌}
 use mathlib.Core.Bool.{Bool, true, false, cond, ◌&&◌, ◌||◌}
 use mathlib.Core.List.{List}
 use mathlib.Core.Path.{◌≡◌, refl}
@@ -13,13 +13,16 @@ use Rattle.terms.specs.Lists.{every}
 use Rattle.terms.specs.Reply.{Reply, accepted, refused, on_accept}
 use Rattle.terms.proofs.Refusals.{Failed, giving, zero_failed, failed_first, failed_second}
 use Rattle.terms.proofs.Rows.{and_right}
+use Rattle.geometry.specs.Answers.{place_refusal, place_reply, block_at_refusal, block_at_reply}
 use Rattle.geometry.specs.Limits.{beyond_state}
 use Rattle.geometry.specs.Fill.{starting, start_rows, start_refusal}
+use Rattle.geometry.specs.Placement.{stripe_of, card_of, block_of, position_of}
 use Rattle.geometry.specs.Report.{reporting, state_rows, report_rows, report_refusal}
 use Rattle.geometry.specs.Store.{work_wrong}
 use Rattle.geometry.specs.declared.Geometry.{Geometry}
 use Rattle.geometry.specs.declared.State.{State}
 use Rattle.geometry.proofs.Bounds.{within_limits}
+use Rattle.geometry.proofs.Inverse.{placed_small, held_small}
 use Rattle.geometry.proofs.States.{state_bounds, state_filling}
 use Rattle.graph.specs.Choice.{choose, choose_read, choose_write}
 use Rattle.graph.specs.Steps.{step_of}
@@ -56,6 +59,34 @@ module _ (n v : ℕ) (number : n ≤ 15) (value : n ≡ 0 → v ≤ 1024) where
       go : (b : Bool) → eqb n 0 ≡ b → Roomy (cond b (accepted v 0) (refused n))
       go true e = record { number = omega arith; first = omega (arith, value (eqb-true n 0 e)); second = omega arith }
       go false e = record { number = omega (arith, number); first = omega arith; second = omega arith }
+
+-- a card is below 8, a stripe below 1,024
+pub place_room : (N S layout L : ℕ) → Roomy (place_reply N S layout L)
+unfolding place_reply place_refusal every
+place_room N S layout L = go (eqb (place_refusal N S layout L) 0) refl
+  where
+    go : (b : Bool) → eqb (place_refusal N S layout L) 0 ≡ b → Roomy (cond b (accepted (card_of N layout L) (stripe_of N L)) (refused (place_refusal N S layout L)))
+    go true e =
+        let small = placed_small N S layout L (card_of N layout L) (stripe_of N L) (rw e) in
+        record { number = omega arith; first = omega (arith, small); second = omega (arith, small) }
+    go false e =
+        let number : place_refusal N S layout L ≤ 15 = first_row_le 15 _ refl in
+        record { number = omega (arith, number); first = omega arith; second = omega arith }
+
+-- and a block number below 7,168
+pub block_at_room : (N S layout c s : ℕ) → Roomy (block_at_reply N S layout c s)
+unfolding block_at_reply block_at_refusal every
+block_at_room N S layout c s = go (eqb (block_at_refusal N S layout c s) 0) refl (eqb (position_of N layout s c) (N - 1)) refl
+  where
+    go : (b : Bool) → eqb (block_at_refusal N S layout c s) 0 ≡ b → (p : Bool) → eqb (position_of N layout s c) (N - 1) ≡ p
+        → Roomy (cond b (cond p (accepted 1 0) (accepted 0 (block_of N s (position_of N layout s c)))) (refused (block_at_refusal N S layout c s)))
+    go true e true f = record { number = omega arith; first = omega arith; second = omega arith }
+    go true e false f =
+        let small = held_small N S layout c s (block_of N s (position_of N layout s c)) (rw (e, f)) in
+        record { number = omega arith; first = omega arith; second = omega (arith, small) }
+    go false e p f =
+        let number : block_at_refusal N S layout c s ≤ 15 = first_row_le 15 _ refl in
+        record { number = omega (arith, number); first = omega arith; second = omega arith }
 
 -- the table chooses a graph from 1 to 6
 choose_le : (n : ℕ) (write : Bool) (mask x : ℕ) → choose n write mask x ≤ 6

@@ -1,9 +1,8 @@
 // The whole engine for C programs: the state and the table are lent as structs of C's layout; `recorder_c` takes each slice as a pointer and a length.
+// (The numbers of an array come one by one, and whether a request writes as a number, as the header gives them to C.)
 // Assumes nothing.
 ghost use Rattle.std.specs.Prelude.{not, ◌≡◌, eqb};
-ghost use Rattle.terms.specs.Reply.{on_accept};
 ghost use Rattle.array.specs.Admission.{admission};
-ghost use Rattle.array.specs.Answers.{opened_reply};
 ghost use Rattle.array.specs.Collection.{collection};
 ghost use Rattle.array.specs.Opening.{opening};
 ghost use Rattle.array.specs.Rebuilding.{rebuilding};
@@ -14,22 +13,12 @@ ghost use Rattle.geometry.specs.Report.{reporting};
 ghost use Rattle.recorder.specs.Packing.{packed};
 ghost use Rattle.recorder.specs.Engine.{OpeningPacked, AdmissionPacked, SteppingPacked, ReportingPacked, StartingPacked, CollectionPacked, RebuildingPacked};
 
-use crate::packing::{admitted, collected, opened, rebuilt, reported, scanned, started, stepped};
-use array::answers::Opened;
+use crate::packing::packed;
 use geometry::{Geometry, State};
 use record::Record;
 
-// The state that an opening leaves: the new one, or the old one where it is refused.
-fn state_left(answer: Opened, new: State, old: State) -> State
-    ensures { result ≡ on_accept (opened_reply answer).number new old }
-{
-    if calls::is_open(answer) {
-        return new;
-    }
-    old
-}
-
 // Opens an array: the new state goes where the caller's stood, and every record is freed. Refused, it leaves both as they were.
+#[tactic(auto, using(crate::proofs::Room::open_room), unfolding(array::specs::Outcomes::opened_state))]
 pub fn coppicetune_open(
     state: &mut State,
     table: &mut [Record],
@@ -51,14 +40,17 @@ pub fn coppicetune_open(
         records,
         layout,
     };
-    let old = *state;
-    let made = calls::open(geometry, out, table, work, image);
-    let left = state_left(made.answer, made.state, old);
-    *state = left;
-    opened(made.answer)
+    // (By `if let`: of a closure that stores the state, as in `map`, a proof doesn't know that a refusal never ran it.)
+    let opened = calls::open(geometry, out, table, work, image);
+    let answer = packed(opened);
+    if let Ok(new) = opened {
+        *state = new;
+    }
+    answer
 }
 
 // Admits a request, a read where `write` is 0 and a write where it is any other number.
+#[tactic(auto, using(crate::proofs::Room::admit_room))]
 pub fn coppicetune_admit(
     state: &State,
     table: &mut [Record],
@@ -71,7 +63,7 @@ pub fn coppicetune_admit(
 ) -> u64
     ensures { AdmissionPacked (admission state.now table.old work.old image.now (not (eqb write 0)) stripe mask payload.now) result table.new work.new }
 {
-    admitted(calls::admit(
+    packed(calls::admit(
         *state,
         table,
         work,
@@ -84,6 +76,7 @@ pub fn coppicetune_admit(
 }
 
 // Does step k of record i, or chooses its graph afresh.
+#[tactic(auto, using(crate::proofs::Room::step_room))]
 pub fn coppicetune_step(
     state: &State,
     table: &mut [Record],
@@ -94,24 +87,27 @@ pub fn coppicetune_step(
 ) -> u64
     ensures { SteppingPacked (stepping state.now table.old work.old image.old i k) result table.new work.new image.new }
 {
-    stepped(calls::step(*state, table, work, image, i, k))
+    packed(calls::step(*state, table, work, image, i, k))
 }
 
 // Marks a card out, or the array lost.
+#[tactic(auto, using(crate::proofs::Room::report_room))]
 pub fn coppicetune_report(state: &mut State, card: u64) -> u64
     ensures { ReportingPacked (reporting state.old card) result state.new }
 {
-    reported(calls::report(state, card))
+    packed(calls::report(state, card))
 }
 
 // Begins a fill of the fresh card in the sleeve that is out.
+#[tactic(auto, using(crate::proofs::Room::start_room))]
 pub fn coppicetune_start(state: &mut State) -> u64
     ensures { StartingPacked (starting state.old) result state.new }
 {
-    started(calls::start(state))
+    packed(calls::start(state))
 }
 
 // Collects finished record i, which is freed.
+#[tactic(auto, using(crate::proofs::Room::collect_room))]
 pub fn coppicetune_collect(
     state: &State,
     table: &mut [Record],
@@ -121,19 +117,21 @@ pub fn coppicetune_collect(
 ) -> u64
     ensures { CollectionPacked (collection state.now table.old work.now i res.old) result table.new res.new }
 {
-    collected(calls::collect(*state, table, work, i, res))
+    packed(calls::collect(*state, table, work, i, res))
 }
 
 // Scans the stripes that no open request holds.
+#[tactic(auto, using(crate::proofs::Room::scan_room))]
 pub fn coppicetune_check(state: &State, table: &[Record], image: &[u8]) -> u64
     ensures { result ≡ packed (scan_reply state.now table.now image.now) }
 {
-    scanned(calls::scan(*state, table, image))
+    packed(calls::scan(*state, table, image))
 }
 
 // Fills the stripe at the fill place on the fresh card, and moves the fill on.
+#[tactic(auto, using(crate::proofs::Room::rebuild_room))]
 pub fn coppicetune_rebuild(state: &mut State, table: &[Record], image: &mut [u8]) -> u64
     ensures { RebuildingPacked (rebuilding state.old table.now image.old) result state.new image.new }
 {
-    rebuilt(calls::rebuild(state, table, image))
+    packed(calls::rebuild(state, table, image))
 }

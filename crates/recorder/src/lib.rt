@@ -8,38 +8,30 @@ ghost use Rattle.geometry.specs.Answers.{place_reply, block_at_reply};
 ghost use Rattle.parity.specs.Scan.{idle_scan_reply};
 ghost use Rattle.recorder.specs.Packing.{packed};
 
-use crate::packing::{pack, scanned};
-use geometry::{Geometry, Held, Placed, State};
+use crate::packing::packed;
+use geometry::{Geometry, State};
 
 pub mod engine;
 mod packing;
 
 // The card and the stripe of a block.
+#[tactic(auto, using(crate::proofs::Room::place_room))]
 pub fn coppicetune_place(cards: u64, stripes: u64, layout: u64, block: u64) -> u64
     ensures { result ≡ packed (place_reply cards stripes layout block) }
 {
-    let placed = Geometry::places(cards, stripes, layout).place(block);
-    match placed {
-        Placed::At { card, stripe } => pack(0, card, stripe),
-        Placed::Beyond => pack(1, 0, 0),
-        Placed::OutOfRange => pack(5, 0, 0),
-    }
+    packed(Geometry::places(cards, stripes, layout).place(block))
 }
 
 // What a card holds in a stripe: 0 and the block's number, or 1 for parity.
+#[tactic(auto, using(crate::proofs::Room::block_at_room))]
 pub fn coppicetune_block_at(cards: u64, stripes: u64, layout: u64, card: u64, stripe: u64) -> u64
     ensures { result ≡ packed (block_at_reply cards stripes layout card stripe) }
 {
-    let held = Geometry::places(cards, stripes, layout).block_at(card, stripe);
-    match held {
-        Held::Block(number) => pack(0, 0, number),
-        Held::Parity => pack(0, 1, 0),
-        Held::Beyond => pack(1, 0, 0),
-        Held::OutOfRange => pack(5, 0, 0),
-    }
+    packed(Geometry::places(cards, stripes, layout).block_at(card, stripe))
 }
 
 // The scan of an array with nothing open: parity is right, or the lowest stripe and the lowest byte in it where it disagrees.
+#[tactic(auto, using(crate::proofs::Room::idle_room))]
 pub fn coppicetune_scan(
     cards: u64,
     stripes: u64,
@@ -63,5 +55,5 @@ pub fn coppicetune_scan(
         lost,
         fill,
     };
-    scanned(parity::idle_scan(state, image))
+    packed(parity::idle_scan(state, image))
 }

@@ -6,6 +6,5 @@ use Rattle.calls.proofs.open.Goals as goal
 pub returns : goal.returns
 returns c =
     let a = c.args in
-    let is = rw c.count-len.ensures at c.open_by-made.ensures in
-    rw (c.freed.ensures, c.is_open.ensures)
-    (open_lent a.table.now a.geometry a.out a.work.now a.image.now c.open_by-made.result is)
+    let is = rw c.count-len.ensures at c.open_by-opened.ensures in
+    open_lent a.table.now a.geometry a.out a.work.now a.image.now _ _ _ is c.is_ok.ensures.value c.freed.ensures
