@@ -1,0 +1,3 @@
+// The walk of a function's MIR by hand, where no generated proof serves: of a function that takes plain data, and that is lent structs or slices of structs.
+// There is no function here: proofs/ has what every such walk shares, and says nothing of any crate.
+#![tactic(auto)]
