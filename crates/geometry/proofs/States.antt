@@ -1,7 +1,7 @@
 -- What refusal 1 leaves of a state's marks, and that a report, a start and a stripe filled leave a state within its limits.
 -- Assumes nothing.
 use Prim.Native.Nat.{ℕ, ◌<◌}
-use mathlib.Core.Bool.{true, false}
+use mathlib.Core.Bool.{true, false, not}
 use mathlib.Core.Logic.{◌⊎◌}
 use mathlib.Core.Path.{◌≡◌}
 use native.Mathlib.Omega.{arith}
@@ -25,10 +25,14 @@ module _ (st : State) (within : beyond_state st ≡ false) where
   pub state_out : (st.out < st.cards) ⊎ (st.out ≡ none)
   state_out = within_limits_out (geometry_of st) st.out state_geometry
 
+  pub legal_fill_law : not (legal_fill st.stripes st.out st.fill) ≡ false
+  unfolding beyond_state
+  legal_fill_law = grind (arith, nat_tests)
+
   -- no fill is under way, or its place is a stripe's, and a card is out
   pub state_fill : (st.fill ≡ no_fill) ⊎ ((st.fill < st.stripes) × ¬ (st.out ≡ none))
-  unfolding beyond_state legal_fill
-  state_fill = grind (arith, nat_tests)
+  unfolding legal_fill
+  state_fill = grind (arith, nat_tests, legal_fill_law)
 
   pub state_filling : under_way st ≡ true → (st.fill < st.stripes) × ¬ (st.out ≡ none)
   unfolding beyond_state legal_fill
