@@ -17,7 +17,7 @@ pub fn copy(dst: &mut [u8], src: &[u8])
     dst[..n].copy_from_slice(&src[..n]);
 }
 
-// Adds a block to the sum.
+// Adds a block to the sum. By index: of a loop over `iter_mut` zipped with the block no invariant can name the bytes that it wrote.
 pub fn add(sum: &mut [u8; 512], block: &[u8])
     ensures { sum.new ≡ added sum.old block.now }
 {

@@ -7,9 +7,8 @@ use mathlib.Core.Path.{◌≡◌, refl, sym, ap, ◌∙◌}
 use native.Mathlib.Omega.{arith}
 use borrow.Author.Tests.{eq-eqb, ne_eqb, eqb-true, lt-ltb, le-ltb, ltb-true, ltb-false}
 use lib.Dec.{ltb, eqb}
-use lib.ListN.{length, get_or, take}
-use lib.Seq.{ext_get_or, get_or-take, length-take-le}
-use Rattle.std.specs.Prelude.{Option, Some, None, MatchOption, ◌≢◌}
+use lib.ListN.{length, get_or}
+use lib.Seq.{ext_get_or}
 use Rattle.terms.specs.Lists.{part}
 use Rattle.terms.specs.Reply.{Reply, accepted}
 use Rattle.terms.specs.Sets.{lowest}
@@ -125,31 +124,12 @@ module _ (l : Looking) where
     sum_clear e = sum_right (λ k m. eqb-true (get_or sum k 0) 0 (all_below_elim l.block (λ i. eqb (get_or sum i 0) 0) e k m))
 
     -- byte b is the first that is not
-    sum_wrong_byte : (b : ℕ) → b < l.block → get_or sum b 0 ≢ 0 → ((k : ℕ) → k < b → get_or sum k 0 ≡ 0) → wrong_in l s ≡ b
+    pub sum_wrong_byte : (b : ℕ) → b < l.block → (get_or sum b 0 ≡ 0 → ⊥) → ((k : ℕ) → k < b → get_or sum k 0 ≡ 0) → wrong_in l s ≡ b
     sum_wrong_byte b h e z =
         byte_found s b h (λ q. e (at b h ∙ q))
         (λ k m.
         let n : k < l.block = omega arith in
         sym (at k n) ∙ z k m)
-
-    -- what a search through its first bytes has found
-    pub sum_found : (o : Option ℕ)
-        → MatchOption o ((k : ℕ) → k < length (take l.block sum) → get_or (take l.block sum) k 0 ≡ 0)
-        (λ b. (b < length (take l.block sum)) × (get_or (take l.block sum) b 0 ≢ 0) × ((k : ℕ) → k < b → get_or (take l.block sum) k 0 ≡ 0))
-        → MatchOption o ((wrong_in l s ≡ l.block) × (sum ≡ zeros 512)) (λ b. (b < l.block) × (wrong_in l s ≡ b))
-    sum_found = go (length-take-le l.block sum (omega (arith, sum_length, fit.block)))
-      where
-        go : length (take l.block sum) ≡ l.block → (o : Option ℕ)
-            → MatchOption o ((k : ℕ) → k < length (take l.block sum) → get_or (take l.block sum) k 0 ≡ 0)
-            (λ b. (b < length (take l.block sum)) × (get_or (take l.block sum) b 0 ≢ 0) × ((k : ℕ) → k < b → get_or (take l.block sum) k 0 ≡ 0))
-            → MatchOption o ((wrong_in l s ≡ l.block) × (sum ≡ zeros 512)) (λ b. (b < l.block) × (wrong_in l s ≡ b))
-        go long None z = sum_right (λ k m. sym (get_or-take l.block sum k 0 m) ∙ z k (omega (arith, long)))
-        go long (Some b) f =
-            let inside : b < l.block = omega (arith, f.0, long) in (
-              inside,
-              sum_wrong_byte b inside (λ q. f.1 (get_or-take l.block sum b 0 inside ∙ q))
-                  (λ k m. sym (get_or-take l.block sum k 0 (omega (arith, inside, m))) ∙ f.2 k m),
-            )
 
   -- ---- by all stripes
 

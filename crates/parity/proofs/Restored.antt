@@ -64,11 +64,11 @@ beside_sum (suc m) c f h = go (beside_sum m c f) (ltb c (suc m)) refl
         xor_to_cong (suc m) (λ k. f (beside c k)) (others c f) (λ k n. ap f (beside_below c k (omega arith)) ∙ sym (rw (ne_eqb k c (λ q. omega arith))))
         ∙ sym (ap (λ (x : ℕ). bit_xor (xor_to (suc m) (others c f)) x) (rw (eq-eqb (suc m) c (sym l))) ∙ xor_zero (xor_to (suc m) (others c f)))
 
--- beside the card after the last are all of them
+-- beside the number after the last card's are all of them
 pub all_cards : (S B : ℕ) (image : List ℕ) (s n m : ℕ) (sum : List ℕ) → n ≡ m
-    → summed n (λ k. cell S B image s (beside n k)) sum ≡ summed m (cell S B image s) sum
+    → summed n (λ k. cell S B image s (beside m k)) sum ≡ summed m (cell S B image s) sum
 all_cards S B image s n m sum e =
-    summed_cong n (λ k. cell S B image s (beside n k)) (cell S B image s) sum (λ k l. ap (cell S B image s) (beside_below n k l))
+    summed_cong n (λ k. cell S B image s (beside m k)) (cell S B image s) sum (λ k l. ap (cell S B image s) (beside_below m k (omega arith)))
     ∙ ap (λ (j : ℕ). summed j (cell S B image s) sum) e
 
 -- ---- the block that is restored

@@ -1,38 +1,61 @@
--- `Cells::scan_all` meets its contract. The loop's invariant: no stripe below `stripe` is to be reported, and the sum has zero bytes.
+-- `Cells::scan_all` meets its contract. The outer loop's invariant: no stripe below `stripe` is to be reported, the sum has zero bytes, and nothing is
+-- answered yet. The inner one's: the first bytes of the stripe's sum are zero.
 -- Assumes nothing.
-use mathlib.Core.Path.{sym, ◌∙◌}
+use mathlib.Core.Path.{◌≡◌, sym, ap, ◌∙◌}
 use native.Mathlib.Omega.{arith}
 use borrow.Author.Count.{below_more}
-use Rattle.parity.proofs.Found.{Looking, reports_passed, reports_right, reports_wrong, looked_right, looked_wrong}
+use Rattle.terms.specs.Reply.{done_reply}
+use Rattle.parity.proofs.Found.{Looking, wrong_in, reports_passed, reports_right, reports_wrong, sum_right, sum_clear, sum_wrong_byte, looked_right, looked_wrong}
 use Rattle.parity.proofs.Passing.{among_is}
+use Rattle.parity.proofs.Restored.{all_cards}
 use Rattle.parity.proofs.image.Cells.scan_all.Invariants.{looking}
 use Rattle.parity.proofs.image.Cells.scan_all.Goals as goal
 
-pub loop-stripe-preserved-then-contains : goal.loop-stripe-preserved-then-contains
-loop-stripe-preserved-then-contains g c =
-    let at = c.loop-stripe in
+pub scan-preserved-then-contains : goal.scan-preserved-then-contains
+scan-preserved-then-contains g c =
+    let at = c.scan in
     let l : Looking = looking c.args.self.cards c.args.self.stripes c.args.self.size c.args.self.image.now c.args.skip in (
       below_more _ _ at.invariant.0 (reports_passed l at.stripe (sym (among_is c.args.skip at.stripe) ∙ sym c.contains.ensures.value ∙ c.if-contains.true)),
       at.invariant.1,
+      at.invariant.2,
     )
 
-pub loop-stripe-preserved : goal.loop-stripe-preserved
-loop-stripe-preserved g c =
-    let at = c.loop-stripe in
-    let l : Looking = looking c.args.self.cards c.args.self.stripes c.args.self.size c.args.self.image.now c.args.skip in (
-      below_more _ _ at.invariant.0 (reports_right l at.stripe c.in_default.ensures.0),
-      c.in_default.ensures.1,
-    )
+pub scan-preserved-then-add_beside : goal.scan-preserved-then-add_beside
+scan-preserved-then-add_beside g c =
+    let at = c.scan in
+    let cells = c.args.self in
+    let l : Looking = looking cells.cards cells.stripes cells.size cells.image.now c.args.skip in
+    let right = sum_clear l cells.fitting at.stripe c.scan-test.true at.sum c.add_beside.new.sum at.invariant.1
+    (c.add_beside.ensures.0 ∙ all_cards cells.stripes cells.size cells.image.now at.stripe g.row.N cells.cards at.sum c.requires)
+    (sym c.add_beside.ensures.1 ∙ c.if-add_beside.true) in
+    (below_more _ _ at.invariant.0 (reports_right l at.stripe right.0), right.1, at.invariant.2)
 
-pub returns-in-Some : goal.returns-in-Some
-returns-in-Some g c =
-    let at = c.loop-stripe in
-    let l : Looking = looking c.args.self.cards c.args.self.stripes c.args.self.size c.args.self.image.now c.args.skip in
-    looked_wrong l at.stripe c.in-Some.byte c.loop-stripe-test.true
-    (reports_wrong l at.stripe (sym (among_is c.args.skip at.stripe) ∙ sym c.contains.ensures.value ∙ c.if-contains.false) (rw c.in-Some.ensures.1 c.in-Some.ensures.0))
-    at.invariant.0 c.in-Some.ensures.1
+pub scan-preserved : goal.scan-preserved
+scan-preserved g c =
+    let at = c.scan in
+    let cells = c.args.self in
+    let l : Looking = looking cells.cards cells.stripes cells.size cells.image.now c.args.skip in
+    let right = sum_right l cells.fitting at.stripe c.scan-test.true at.sum c.add_beside.new.sum at.invariant.1
+    (c.add_beside.ensures.0 ∙ all_cards cells.stripes cells.size cells.image.now at.stripe g.row.N cells.cards at.sum c.requires)
+    (λ k m. c.loop-byte.invariant.0 k (omega arith)) in
+    (below_more _ _ at.invariant.0 (reports_right l at.stripe right.0), right.1, c.loop-byte.invariant.1)
 
-pub returns : goal.returns
-returns g c =
-    looked_right (looking c.args.self.cards c.args.self.stripes c.args.self.size c.args.self.image.now c.args.skip)
-    (λ j h. c.loop-stripe.invariant.0 j (omega arith))
+pub returns-then-sum-byte-ne0 : goal.returns-then-sum-byte-ne0
+returns-then-sum-byte-ne0 g c =
+    let at = c.scan in
+    let cells = c.args.self in
+    let byte = c.loop-byte.byte in
+    let l : Looking = looking cells.cards cells.stripes cells.size cells.image.now c.args.skip in
+    let wrong : wrong_in l at.stripe ≡ byte =
+    sum_wrong_byte l cells.fitting at.stripe c.scan-test.true at.sum c.add_beside.new.sum at.invariant.1
+    (c.add_beside.ensures.0 ∙ all_cards cells.stripes cells.size cells.image.now at.stripe g.row.N cells.cards at.sum c.requires)
+    byte c.loop-byte-test.true c.if-sum-byte-ne0.true c.loop-byte.invariant.0 in
+    looked_wrong l at.stripe byte c.scan-test.true
+    (reports_wrong l at.stripe (sym (among_is c.args.skip at.stripe) ∙ sym c.contains.ensures.value ∙ c.if-contains.false) (rw wrong c.loop-byte-test.true))
+    at.invariant.0 wrong
+
+pub returns-after-scan : goal.returns-after-scan
+returns-after-scan g c =
+    ap done_reply c.scan.invariant.2
+    ∙ looked_right (looking c.args.self.cards c.args.self.stripes c.args.self.size c.args.self.image.now c.args.skip)
+    (λ j h. c.scan.invariant.0 j (omega arith))
