@@ -53,7 +53,7 @@ fn choose_write(n: u64, mask: u64, x: u64) -> Graph
     if x < n {
         return Graph::SmallWrite;
     }
-    if 2 * (u64::count_ones(mask) as u64) < n {
+    if 2 * u64::from(mask.count_ones()) < n {
         return Graph::SmallWrite;
     }
     Graph::ReconstructWrite
