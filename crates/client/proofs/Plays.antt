@@ -39,7 +39,7 @@ call_plays (call.admits write s mask payload answer table work h) = parts left h
 call_plays (call.steps i k answer table work image h) = parts left h.reply refl h.table_left h.work_left h.image_left refl
 call_plays (call.reports c answer state h) = parts left h.reply h.state_left refl refl refl refl
 call_plays (call.collects i result answer table result' h) = parts left h.reply refl h.table_left refl refl h.result_left
-call_plays (call.scans answer h) = parts left h.0 refl refl refl refl refl
+call_plays (call.scans answer h) = parts left h refl refl refl refl refl
 call_plays (call.starts answer state h) = parts left h.reply h.state_left refl refl refl refl
 call_plays (call.rebuilds answer state image h) = parts left h.reply h.state_left refl refl h.image_left refl
 
@@ -70,7 +70,7 @@ module _ {r r' : Reply} {s s' : State} {t t' : List Record} (made : Reply → St
 
 module _ {g : Geometry} {out : ℕ} {table : List Record} {work image : List ℕ} where
   pub call_opens : {o : Opening} → OpenedByCall g out table work image o → o.reply.number ≡ 0 → o ≡ opening g out table work image
-  call_opens (call.opens answer state table' h) ok =
+  call_opens (call.opens answer table' h) ok =
       opening_parts (λ r s t. record { reply = r; state = s; table = t }) h.reply h.new_state h.table_left
 
   pub function_opens : {o : Opening} → OpenedByFunction g out table work image o → o.reply.number ≡ 0 → o ≡ opening g out table work image

@@ -1,26 +1,11 @@
 -- The outcomes of `client/specs/Packed.antt` are those of the exported functions' own contracts: what a function's `ensures` says of its result and of
--- what it leaves is that the outcome is allowed. (`client/proofs/Cited.antt` says so of the functions of `recorder` that they call.)
+-- what it leaves is that the outcome is allowed. An exported function has the clauses of the function of `recorder` that it calls, so each lemma here
+-- is that of `client/proofs/Cited.antt`.
 -- Assumes nothing.
-use Prim.Native.Nat.{ℕ}
-use mathlib.Core.Bool.{not}
-use mathlib.Core.List.{List, []}
-use mathlib.Core.Path.{◌≡◌}
 use seplogic.Ra.Ura.{Ura}
-use lib.Dec.{eqb}
-use base.Logic.{ent}
 use types.Logic.{Logic}
-use contract.Lifetimes.{Lfts}
-use contract.Monad.{fact, fact_mono}
 use contract.Running.{Running}
-use denote.Triple.Clauses.{Clauses, Ended, Lasts, at_exit}
-use denote.Triple.Entry.{Args, Res}
 use prog.Model.{Model}
-use Rattle.geometry.specs.Fill.{started_reply}
-use Rattle.geometry.specs.Report.{reported_reply}
-use Rattle.geometry.specs.declared.State.{State}
-use Rattle.parity.specs.Scan.{reply, idle_scan_reply}
-use Rattle.record.specs.declared.Record.{Record}
-use Rattle.array.specs.Answers.{opened_reply, admitted_reply, stepped_reply, collected_reply, rebuilt_reply}
 use Rattle.recorder_c.specs.contracts.coppicetune_scan as idle
 use Rattle.recorder_c.specs.contracts.engine.coppicetune_open as c-open
 use Rattle.recorder_c.specs.contracts.engine.coppicetune_admit as c-admit
@@ -30,62 +15,35 @@ use Rattle.recorder_c.specs.contracts.engine.coppicetune_collect as c-collect
 use Rattle.recorder_c.specs.contracts.engine.coppicetune_check as c-check
 use Rattle.recorder_c.specs.contracts.engine.coppicetune_start as c-start
 use Rattle.recorder_c.specs.contracts.engine.coppicetune_rebuild as c-rebuild
-use Rattle.recorder.specs.Packing.{packed}
-use Rattle.history.specs.World.{World}
-use Rattle.history.specs.World as event
-use Rattle.client.specs.Lent.{left, OpenedByCall, ByCalls}
-use Rattle.client.specs.Lent as call
-use Rattle.client.specs.Packed.{unpacked, OpenedByFunction, ByFunctions}
-use Rattle.client.specs.Packed as function
-
--- the world of what is lent
-abbrev lent : State → List Record → List ℕ → List ℕ → World
-lent state table work image = record { state = state; table = table; work = work; image = image }
+use Rattle.client.proofs.Cited.{Says, OpenAllows, AdmitAllows, StepAllows, ReportAllows, CollectAllows, CheckAllows, StartAllows, RebuildAllows, IdleAllows}
+use Rattle.client.proofs.Cited as client
 
 module _ {M : Type 1} {𝓤 : Ura M} (𝓛 : Logic 𝓤) (𝓜 : Model 𝓤 𝓛.H) (𝓡 : Running 𝓤 𝓛.H 𝓜) where
-  -- a contract says this of the arguments a, of what is left, ws, and of the result r
-  abbrev Says : (T : Ended) → Clauses 𝓤 T → ((κs : Lfts T.signature.lifetimes) (a : Args T.signature κs) → Lasts T κs a → Res T.signature κs → Type 0) → Type 1
-  Says T said φ =
-      (κs : Lfts T.signature.lifetimes) (a : Args T.signature κs) (ws : Lasts T κs a) (r : Res T.signature κs) (g : (said κs a).ghost)
-      → ent 𝓤 ((said κs a).ensures g r (at_exit T κs a ws)) (fact 𝓤 (φ κs a ws r))
+  pub c_open_cited : Says 𝓛 𝓜 𝓡 c-open.ended (c-open.clauses 𝓛 𝓜.mem 𝓡.run) OpenAllows
+  c_open_cited = client.c_open_cited 𝓛 𝓜 𝓡
 
-  -- ---- the C functions
+  pub c_admit_cited : Says 𝓛 𝓜 𝓡 c-admit.ended (c-admit.clauses 𝓛 𝓜.mem 𝓡.run) AdmitAllows
+  c_admit_cited = client.c_admit_cited 𝓛 𝓜 𝓡
 
-  pub c_open_cited : Says c-open.ended (c-open.clauses 𝓛 𝓜.mem 𝓡.run) (λ κs (state, (table, (work, (image, (cards, (stripes, (block, (records, (layout, (out, _)))))))))) (state', (table', (_, (_, (_, (_, (_, (_, (_, (_, _)))))))))) r.
-      OpenedByFunction (record { cards = cards; stripes = stripes; block = block; records = records; layout = layout }) out table.now work.now image.now
-      (record { reply = unpacked r; state = state'; table = table' }))
-  c_open_cited κs a ws r g = fact_mono 𝓤 _ _ (λ h. function.opens _ _ _ _ h)
+  pub c_step_cited : Says 𝓛 𝓜 𝓡 c-step.ended (c-step.clauses 𝓛 𝓜.mem 𝓡.run) StepAllows
+  c_step_cited = client.c_step_cited 𝓛 𝓜 𝓡
 
-  pub c_admit_cited : Says c-admit.ended (c-admit.clauses 𝓛 𝓜.mem 𝓡.run) (λ κs (state, (table, (work, (image, (write, (s, (mask, (payload, _)))))))) (_, (table', (work', (_, (_, (_, (_, (_, _)))))))) r.
-      ByFunctions (lent state.now table.now work.now image.now) (event.admit (not (eqb write 0)) s mask payload.now) (left (unpacked r) state.now table' work' image.now []))
-  c_admit_cited κs a ws r g = fact_mono 𝓤 _ _ (λ h. function.admits a.1.1.1.1.0 a.1.1.1.1.1.0 a.1.1.1.1.1.1.0 a.1.1.1.1.1.1.1.0.now _ _ _ h)
+  pub c_report_cited : Says 𝓛 𝓜 𝓡 c-report.ended (c-report.clauses 𝓛 𝓜.mem 𝓡.run) ReportAllows
+  c_report_cited = client.c_report_cited 𝓛 𝓜 𝓡
 
-  pub c_step_cited : Says c-step.ended (c-step.clauses 𝓛 𝓜.mem 𝓡.run) (λ κs (state, (table, (work, (image, (i, (k, _)))))) (_, (table', (work', (image', (_, (_, _)))))) r.
-      ByFunctions (lent state.now table.now work.now image.now) (event.step i k) (left (unpacked r) state.now table' work' image' []))
-  c_step_cited κs a ws r g = fact_mono 𝓤 _ _ (λ h. function.steps _ _ _ _ _ _ h)
+  pub c_collect_cited : Says 𝓛 𝓜 𝓡 c-collect.ended (c-collect.clauses 𝓛 𝓜.mem 𝓡.run) CollectAllows
+  c_collect_cited = client.c_collect_cited 𝓛 𝓜 𝓡
 
-  pub c_report_cited : Says c-report.ended (c-report.clauses 𝓛 𝓜.mem 𝓡.run) (λ κs (state, (card, _)) (state', (_, _)) r.
-      (table : List Record) (work image : List ℕ) → ByFunctions (lent state.now table work image) (event.report card) (left (unpacked r) state' table work image []))
-  c_report_cited κs a ws r g = fact_mono 𝓤 _ _ (λ h table work image. function.reports _ _ _ h)
+  pub c_check_cited : Says 𝓛 𝓜 𝓡 c-check.ended (c-check.clauses 𝓛 𝓜.mem 𝓡.run) CheckAllows
+  c_check_cited = client.c_check_cited 𝓛 𝓜 𝓡
 
-  pub c_collect_cited : Says c-collect.ended (c-collect.clauses 𝓛 𝓜.mem 𝓡.run) (λ κs (state, (table, (work, (i, (result, _))))) (_, (table', (_, (_, (result', _))))) r.
-      (image : List ℕ) → ByFunctions (lent state.now table.now work.now image) (event.collect i result.now) (left (unpacked r) state.now table' work.now image result'))
-  c_collect_cited κs a ws r g = fact_mono 𝓤 _ _ (λ h image. function.collects _ _ _ _ _ h)
+  pub c_start_cited : Says 𝓛 𝓜 𝓡 c-start.ended (c-start.clauses 𝓛 𝓜.mem 𝓡.run) StartAllows
+  c_start_cited = client.c_start_cited 𝓛 𝓜 𝓡
 
-  pub c_check_cited : Says c-check.ended (c-check.clauses 𝓛 𝓜.mem 𝓡.run) (λ κs (state, (table, (image, _))) (_, (_, (_, _))) r.
-      (work : List ℕ) → ByFunctions (lent state.now table.now work image.now) event.scan (left (unpacked r) state.now table.now work image.now []))
-  c_check_cited κs a ws r g = fact_mono 𝓤 _ _ (λ h work. function.checks _ h)
-
-  pub c_start_cited : Says c-start.ended (c-start.clauses 𝓛 𝓜.mem 𝓡.run) (λ κs (state, _) (state', _) r.
-      (table : List Record) (work image : List ℕ) → ByFunctions (lent state.now table work image) event.start (left (unpacked r) state' table work image []))
-  c_start_cited κs a ws r g = fact_mono 𝓤 _ _ (λ h table work image. function.starts _ _ h)
-
-  pub c_rebuild_cited : Says c-rebuild.ended (c-rebuild.clauses 𝓛 𝓜.mem 𝓡.run) (λ κs (state, (table, (image, _))) (state', (_, (image', _))) r.
-      (work : List ℕ) → ByFunctions (lent state.now table.now work image.now) event.rebuild (left (unpacked r) state' table.now work image' []))
-  c_rebuild_cited κs a ws r g = fact_mono 𝓤 _ _ (λ h work. function.rebuilds _ _ _ h)
+  pub c_rebuild_cited : Says 𝓛 𝓜 𝓡 c-rebuild.ended (c-rebuild.clauses 𝓛 𝓜.mem 𝓡.run) RebuildAllows
+  c_rebuild_cited = client.c_rebuild_cited 𝓛 𝓜 𝓡
 
   -- ---- the scan of an array with nothing open
 
-  pub idle_cited : Says idle.ended (idle.clauses 𝓛 𝓜.mem 𝓡.run) (λ κs (cards, (stripes, (block, (records, (layout, (out, (lost, (fill, (image, _))))))))) (_, (_, (_, (_, (_, (_, (_, (_, (_, _))))))))) r.
-      r ≡ packed (idle_scan_reply (record { cards = cards; stripes = stripes; block = block; records = records; layout = layout; out = out; lost = lost; fill = fill }) image.now))
-  idle_cited κs a ws r g = fact_mono 𝓤 _ _ (λ h. h)
+  pub idle_cited : Says 𝓛 𝓜 𝓡 idle.ended (idle.clauses 𝓛 𝓜.mem 𝓡.run) IdleAllows
+  idle_cited = client.idle_cited 𝓛 𝓜 𝓡

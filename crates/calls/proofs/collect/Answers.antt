@@ -1,5 +1,6 @@
 -- `calls::collect` meets its contract: what is said of a collection by a survey of the rest is said of it over the table.
 -- Assumes nothing.
+use mathlib.Core.Path.{◌∙◌}
 use Rattle.std.proofs.lemmas.Result.{err_from_is_err_and}
 use Rattle.std.specs.Prelude.{Ok, Err}
 use Rattle.calls.proofs.BySurvey.{collect_lent}
@@ -15,5 +16,5 @@ returns-in_err-changed c =
 pub returns : goal.returns
 returns c =
     let a = c.args in
-    rw (c.put.ensures.answer, c.put.ensures.table)
-    (collect_lent a.table.now a.state a.work.now a.i a.res.now (Ok _) _ (rw (c.surveyed-survey.ensures, c.at-r.ensures) at c.in_ok-changed.ensures))
+    let said = collect_lent a.table.now a.state a.work.now a.i a.res.now (Ok _) _ (rw (c.surveyed-survey.ensures, c.at-r.ensures) at c.in_ok-changed.ensures) in
+    record { reply = rw c.put.ensures.answer said.reply; table_left = c.put.ensures.table ∙ said.table_left; result_left = said.result_left }
