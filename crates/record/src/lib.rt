@@ -12,7 +12,7 @@ mod tables;
 
 // A request record. A free one is all zero.
 #[repr(C)]
-#[derive(Clone, Copy)]
+#[derive(Clone, Copy, PartialEq)]
 pub struct Record {
     // free, open or finished: 0, 1, 2
     pub phase: u64,
