@@ -75,7 +75,7 @@ module _ (N S s : ℕ) (legal : beyond_places N S 5 ≡ false) (below : s < S) w
       block : eqb (position_of N 5 s c) (N - 1) ≡ false → length (shown N s c) ≤ 4
       block t =
           let b = places_bounds N S 5 legal in
-          rw t (decimal_length (block_of N s (position_of N 5 s c)) 3 (omega (arith, (placed N 5 (omega arith)).position_below s c less, blocks_few N S 5 legal s (omega arith))))
+          rw t (decimal_length (block_of N s (position_of N 5 s c)) (omega (arith, (placed N 5 (omega arith)).position_below s c less, blocks_few N S 5 legal s (omega arith))))
 
   -- k cards take at most five bytes each
   pub cards_size : (k : ℕ) → k ≤ N → length (cards_text N s k) ≤ 5 * k
@@ -123,7 +123,7 @@ module _ (N S s : ℕ) (legal : beyond_places N S 5 ≡ false) (below : s < S) w
 
   -- the stripe has at most four digits
   pub stripe_size : length (decimal s) ≤ 4
-  stripe_size = let b = places_bounds N S 5 legal in decimal_length s 3 (omega arith)
+  stripe_size = let b = places_bounds N S 5 legal in decimal_length s (omega arith)
 
   -- the stripe and the cards leave room for the newline
   pub line_short : length (decimal s) + length (cards_text N s N) < line_room

@@ -10,7 +10,7 @@ ghost use Rattle.std.specs.Prelude.{◌≡◌};
 ghost use Rattle.geometry.specs.Answers.{beyond_places, held_reply, block_at_reply};
 
 use geometry::{Geometry, Held, LEVEL_5};
-pub use input::{Asked, read_input};
+pub use input::{Shape, read_input};
 pub use line::write_line;
 
 // Whether N or S is beyond its limits.

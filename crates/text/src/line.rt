@@ -37,11 +37,9 @@ fn put_cards(cards: u64, stripes: u64, stripe: u64, out: &mut [u8], at: usize) -
     ensures out_after { out.new ≡ put at (cards_text cards stripe cards) out.old }
 {
     let mut end = at;
-    let mut card = 0;
-    while card < cards {
+    for card in 0..cards {
         out[end] = b' ';
         end = put_held(held_at(cards, stripes, card, stripe), out, end + 1);
-        card += 1;
     }
     end
 }
