@@ -71,7 +71,7 @@ pub(crate) fn perform(
     r: Record,
     x: u64,
     reading: u64,
-    action: Action,
+    action: Option<Action>,
     work: &mut [u8],
     image: &mut [u8],
 )
@@ -79,10 +79,12 @@ pub(crate) fn perform(
     ensures works { work.new ≡ work_after state i r (action_step action) work.old image.old }
     ensures images { image.new ≡ image_after state i r (action_step action) work.old image.old }
 {
+    let Some(action) = action else {
+        return;
+    };
     match action {
         Action::Read(p) => read(state, i, r, p, work, image),
         Action::Sum => sum(state, i, r, x, reading, work, image),
         Action::Write(p) => write(state, i, r, p, work, image),
-        Action::Nothing => {}
     }
 }

@@ -33,7 +33,7 @@ fn step_refusal(
     survey: Survey,
     r: Record,
     look: Look,
-    action: Action,
+    action: Option<Action>,
     work: &[u8],
     image: &[u8],
     i: u64,
@@ -72,14 +72,13 @@ fn step_refusal(
 }
 
 // Whether the step is on position x.
-fn meets_out(action: Action, x: u64) -> bool
+#[tactic(auto, unfolding(crate::specs::Stepping::meets_out, graph::specs::Asked::action_step))]
+fn meets_out(action: Option<Action>, x: u64) -> bool
     ensures { result ≡ meets_out x (action_step action) }
 {
     match action {
-        Action::Read(p) => p == x,
-        Action::Sum => false,
-        Action::Write(p) => p == x,
-        Action::Nothing => false,
+        Some(Action::Read(p) | Action::Write(p)) => p == x,
+        Some(Action::Sum) | None => false,
     }
 }
 

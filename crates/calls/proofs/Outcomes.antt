@@ -4,6 +4,7 @@
 use Prim.Native.Nat.{ℕ}
 use mathlib.Core.List.{List}
 use mathlib.Core.Path.{◌≡◌, refl, sym, ap, ap₂, ◌∙◌}
+use Rattle.std.proofs.Common.{Option, Some, None}
 use Rattle.terms.specs.Reply.{Reply}
 use Rattle.geometry.specs.Answers.{placed_reply, held_reply}
 use Rattle.geometry.specs.Fill.{Starting, StartingIs}
@@ -116,18 +117,18 @@ module _ {r : Reply} where
   block_at_one a b p q = held_one a b (p ∙ sym q)
 
 -- what a step does, of the graphs
-abbrev action_of : Step → Action
-action_of (rd p) = action.Read p
-action_of xr = action.Sum
-action_of (wr p) = action.Write p
-action_of nil = action.Nothing
+abbrev action_of : Step → Option Action
+action_of (rd p) = Some (action.Read p)
+action_of xr = Some action.Sum
+action_of (wr p) = Some (action.Write p)
+action_of nil = None
 
-action_named : (a : Action) → action_of (action_step a) ≡ a
+action_named : (a : Option Action) → action_of (action_step a) ≡ a
 unfolding action_step
-action_named (action.Read p) = refl
-action_named action.Sum = refl
-action_named (action.Write p) = refl
-action_named action.Nothing = refl
+action_named (Some (action.Read p)) = refl
+action_named (Some action.Sum) = refl
+action_named (Some (action.Write p)) = refl
+action_named None = refl
 
-pub step_of_one : {s : Step} (a b : Action) → action_step a ≡ s → action_step b ≡ s → a ≡ b
+pub step_of_one : {s : Step} (a b : Option Action) → action_step a ≡ s → action_step b ≡ s → a ≡ b
 step_of_one a b p q = sym (action_named a) ∙ ap action_of (p ∙ sym q) ∙ action_named b

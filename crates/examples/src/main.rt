@@ -2,20 +2,18 @@
 // N = 5 and S = 5 unless said.
 #![tactic(auto)]
 
-use array::answers::{Admitted, Opened};
-use geometry::{Geometry, LEVEL_5, NONE, Placed};
+use geometry::{Geometry, LEVEL_5, NONE};
 use record::Record;
 use std::{fmt, io};
+use terms::Refusal;
 
-mod numbers;
-
-// The number by which a call is refused.
+// That a call was refused, by the paper's number.
 #[derive(Clone, Copy)]
-struct Refused(u64);
+struct Refused(Refusal);
 
 impl fmt::Display for Refused {
     fn fmt<W: fmt::Write>(&self, f: &mut fmt::Formatter<W>) -> fmt::Result {
-        write!(f, "refused by {}", self.0)
+        write!(f, "refused by {}", self.0.number())
     }
 }
 
@@ -32,11 +30,12 @@ fn shape(cards: u64, stripes: u64, block: u64) -> Geometry {
 
 // Tells where a block is.
 fn tell_block(rt: &impl Print, block: u64) -> io::Result<()> {
-    print!(rt; "block {block}: ")?;
-    let answer = shape(5, 5, 16).place(block);
-    match answer {
-        Placed::At { card, stripe } => println!(rt; "card {card}, stripe {stripe}"),
-        _ => println!(rt; "{}", Refused(numbers::placed(answer))),
+    match shape(5, 5, 16).place(block) {
+        Ok(place) => println!(rt;
+            "block {block}: card {}, stripe {}",
+            place.card, place.stripe
+        ),
+        Err(refusal) => println!(rt; "block {block}: {}", Refused(refusal)),
     }
 }
 
@@ -45,20 +44,19 @@ fn tell_open(rt: &impl Print, name: &str, geometry: Geometry) -> io::Result<()> 
     let mut records = [record::free()];
     let work = [0u8; 160];
     let image = [0u8; 400];
-    let answer = calls::open(geometry, NONE, &mut records, &work, &image).answer;
-    match answer {
-        Opened::Open => println!(rt; "{name}: accepted"),
-        _ => println!(rt; "{name}: {}", Refused(numbers::opened(answer))),
+    match calls::open(geometry, NONE, &mut records, &work, &image) {
+        Ok(_) => println!(rt; "{name}: accepted"),
+        Err(refusal) => println!(rt; "{name}: {}", Refused(refusal)),
     }
 }
 
-// Admits a request of stripe 0, on an array of zeros with a card out or none, and answers its record too.
-fn ask(out: u64, write: bool, mask: u64, payload: &[u8]) -> (Admitted, Record) {
+// The record of a request of stripe 0, on an array of zeros with a card out or none.
+fn ask(out: u64, write: bool, mask: u64, payload: &[u8]) -> Result<Record, Refusal> {
     let mut records = [record::free()];
     let mut work = [0u8; 160];
     let image = [0u8; 400];
-    let state = calls::open(shape(5, 5, 16), out, &mut records, &work, &image).state;
-    let answer = calls::admit(
+    let state = calls::open(shape(5, 5, 16), out, &mut records, &work, &image)?;
+    calls::admit(
         state,
         &mut records,
         &mut work,
@@ -67,25 +65,23 @@ fn ask(out: u64, write: bool, mask: u64, payload: &[u8]) -> (Admitted, Record) {
         0,
         mask,
         payload,
-    );
-    (answer, records[0])
+    )?;
+    Ok(records[0])
 }
 
 // Tells the graph of a write of all four units.
 fn tell_graph(rt: &impl Print, name: &str, out: u64) -> io::Result<()> {
-    let (answer, record) = ask(out, true, 15, &[0u8; 64]);
-    match answer {
-        Admitted::Taken(_) => println!(rt; "{name}: graph {}", record.graph),
-        Admitted::Refused(number) => println!(rt; "{name}: {}", Refused(number)),
+    match ask(out, true, 15, &[0u8; 64]) {
+        Ok(record) => println!(rt; "{name}: graph {}", record.graph),
+        Err(refusal) => println!(rt; "{name}: {}", Refused(refusal)),
     }
 }
 
 // Tells whether a read of a mask is admitted.
 fn tell_mask(rt: &impl Print, mask: u64) -> io::Result<()> {
-    let (answer, _) = ask(NONE, false, mask, b"");
-    match answer {
-        Admitted::Taken(_) => println!(rt; "mask {mask}: accepted"),
-        Admitted::Refused(number) => println!(rt; "mask {mask}: {}", Refused(number)),
+    match ask(NONE, false, mask, b"") {
+        Ok(_) => println!(rt; "mask {mask}: accepted"),
+        Err(refusal) => println!(rt; "mask {mask}: {}", Refused(refusal)),
     }
 }
 

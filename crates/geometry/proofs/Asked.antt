@@ -1,12 +1,13 @@
 -- What a state answers of its sizes and blocks, for a state within its limits: the right size and place, and no byte past the end.
 -- Assumes nothing.
-use Prim.Native.Nat.{ℕ, ◌+◌, ◌≤◌, ◌<◌}
-use mathlib.Core.Bool.{Bool, true, false, cond, not, ◌&&◌, not-not}
-use mathlib.Core.List.{List, []}
-use mathlib.Core.Path.{◌≡◌, refl}
-use lib.Dec.{ltb, eqb}
-use lib.ListN.{length}
-use borrow.Author.Tests.{ltb-true, lt-ltb}
+use Prim.Native.Nat.{ℕ, ◌+◌, ◌-◌, ◌≤◌, ◌<◌}
+use mathlib.Core.Bool.{true, ◌&&◌}
+use mathlib.Core.List.{List}
+use mathlib.Core.Path.{◌≡◌, refl, ◌∙◌}
+use native.Mathlib.Nat.{add-sub_cancel_left}
+use lib.Dec.{ltb}
+use lib.ListN.{length, take, drop}
+use borrow.Author.Tests.{ltb-true, lt-ltb, eq-eqb}
 use Rattle.terms.specs.Lists.{part}
 use Rattle.terms.proofs.Rows.{and_left, and_right, and_both}
 use Rattle.geometry.specs.Asked.{image_size_in, cell_in, cell_part}
@@ -64,16 +65,12 @@ module _ (st : State) where
     pub cell_in_inside : cell_in st c s + st.block ≤ image_size st.cards st.stripes st.block
     cell_in_inside = rw cell_in_is (cell_inside st.cards st.stripes st.block c s p.first p.second)
 
--- a part, by the tests that the code makes: that the block is there, and the length
-tested : (there : Bool) (whole size at place block : ℕ) (l : List ℕ)
-    → (there ≡ true → (whole ≡ size) × (at ≡ place))
-    → cond (there && eqb (length l) whole) (part at block l) [] ≡ cond (there && not (not (eqb (length l) size))) (part place block l) []
-tested false whole size at place block l e = refl
-tested true whole size at place block l e = let (a, b) = e refl in simp (a, b, not-not)
-
+-- the block of a card and a stripe, where it is there and the image has the right length, as the range from its start to its end
 module _ (st : State) where
-  pub cell_part_asked : (c s : ℕ) (image : List ℕ) → cond (in_image st c s && eqb (length image) (image_size_in st)) (part (cell_in st c s) st.block image) [] ≡ cell_part st c s image
-  unfolding cell_part image_wrong
-  cell_part_asked c s image =
-      tested (in_image st c s) _ _ _ _ _ image
-      (λ e. let p = in_image_law st c s e in (image_size_in_is st p.bounds, cell_in_is st c s p))
+  pub cell_part_there : (c s : ℕ) (image : List ℕ) → in_image st c s ≡ true → length image ≡ image_size_in st
+      → take (cell_in st c s + st.block - cell_in st c s) (drop (cell_in st c s) image) ≡ cell_part st c s image
+  unfolding cell_part image_wrong part
+  cell_part_there c s image e l =
+      let p = in_image_law st c s e in
+      let size = image_size_in_is st p.bounds in
+      rw (e, add-sub_cancel_left, eq-eqb _ _ (l ∙ size), cell_in_is st c s p) refl

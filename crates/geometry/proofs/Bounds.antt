@@ -1,10 +1,11 @@
 -- The limits as facts: what the numbers of a legal geometry are, and how large the image and the work store can get.
 -- Assumes nothing.
-use Prim.Native.Nat.{ℕ, ◌%◌, ◌≤◌, ◌<◌}
+use Prim.Native.Nat.{ℕ, ◌+◌, ◌*◌, ◌%◌, ◌≤◌, ◌<◌}
 use mathlib.Core.Bool.{Bool, true, false, ◌&&◌}
 use mathlib.Core.Logic.{◌⊎◌, inl, inr}
 use mathlib.Core.Path.{◌≡◌}
 use native.Mathlib.Nat.{le_refl, mul-le-mul}
+use native.Mathlib.Omega.{arith}
 use lib.Dec.{ltb, eqb}
 use borrow.Author.Tests.{ltb-true, eqb-true, eq-eqb, not-false}
 use Rattle.terms.specs.Sets.{within}
@@ -66,9 +67,19 @@ module _ (N S B K : ℕ) where
   unfolding image_size
   image_small b = mul-le-mul (mul-le-mul b.cards_high b.stripes_high) b.block_high
 
+  pub sizes_fit : Bounds N S B K → N * S ≤ 8192
+  sizes_fit b = mul-le-mul b.cards_high b.stripes_high
+
   pub work_small : Bounds N S B K → work_size N B K ≤ 65536
   unfolding work_size
   work_small b = mul-le-mul (mul-le-mul (mul-le-mul (le_refl 2) b.cards_high) b.block_high) b.records_high
+
+-- what stands in this column of this row starts below 2^64, in rows this small
+pub offset_fits : (row width column block : ℕ) → row ≤ 8 → width ≤ 1024 → column ≤ 1024 → block ≤ 512 → (row * width + column) * block ≤ 4718592
+offset_fits row width column block r w c b =
+    let first = mul-le-mul r w in
+    let number : row * width + column ≤ 9216 = omega arith in
+    mul-le-mul number b
 
 -- the card out is below N, or none is
 pub out_cases : (N out : ℕ) → legal_out N out ≡ true → (out < N) ⊎ (out ≡ none)

@@ -5,9 +5,10 @@
 -- What another layout gives: its definition, in specs beside Level4 and Level5; its law, `Placing` of that definition, in proofs beside theirs; and its
 -- number, by which `card_at` and `position_of`, `placed` below and the code of `card_of`, `position_of` and `place` choose, and which `legal_layout` lets in.
 -- Assumes nothing.
-use Prim.Native.Nat.{ℕ, zero, ◌-◌, ◌%◌, ◌≤◌, ◌<◌}
+use Prim.Native.Nat.{ℕ, zero, zero-le, ◌-◌, ◌%◌, ◌≤◌, ◌<◌}
 use mathlib.Core.Bool.{Bool, true, false, cond}
 use mathlib.Core.Path.{◌≡◌, refl, sym, ap, ◌∙◌}
+use native.Mathlib.Nat.{lt_of_le_of_lt}
 use native.Mathlib.Omega.{arith}
 use borrow.Author.Tests.{lt-ltb, le-ltb, ltb-true, eq-eqb, ne_eqb}
 use lib.Dec.{ltb, eqb}
@@ -50,6 +51,10 @@ placed N layout some = go (eqb layout 4)
     go : (four : Bool) → Placing N (λ s j. cond four (card_at4 j) (card_at5 N s j)) (λ s c. cond four (position_of4 c) (position_of5 N s c))
     go true = unrotated N
     go false = left_symmetric N some
+
+-- so a card's position is below N
+pub position_small : (N layout s c : ℕ) → c < N → position_of N layout s c < N
+position_small N layout s c h = (placed N layout (lt_of_le_of_lt zero-le h)).position_below s c h
 
 -- the card of a block without its unit and its stripe: layout 4 deals the blocks to n cards in turn, layout 5 to N
 module _ (N layout L : ℕ) where

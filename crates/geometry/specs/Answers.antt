@@ -1,12 +1,12 @@
 -- Document 01, "Refusal numbers": what placement answers, each way. It gives 1 and 5, with B taken as 16, K as 1 and no card out.
 -- Assumes nothing.
-use Rattle.std.specs.Prelude.{ℕ, ◌-◌, ◌*◌, Bool, cond, ◌||◌, [], ◌∷◌, leb, eqb}
-use Rattle.terms.specs.Reply.{Reply, accepted, refused, row, first_row, on_accept}
+use Rattle.std.specs.Prelude.{ℕ, ◌-◌, ◌*◌, Bool, cond, ◌||◌, [], ◌∷◌, leb, eqb, Result}
+use Rattle.terms.specs.Reply.{Reply, accepted, refused, row, first_row, on_accept, reply_of}
+use Rattle.terms.specs.declared.refusal.Refusal.{Refusal}
 use Rattle.geometry.specs.Limits.{beyond, none}
 use Rattle.geometry.specs.Placement.{stripe_of, card_of, block_of, position_of}
 use Rattle.geometry.specs.declared.Geometry.{Geometry}
 use Rattle.geometry.specs.declared.Placed.{Placed}
-use Rattle.geometry.specs.declared.Placed.TheVariants as placed
 use Rattle.geometry.specs.declared.Held.{Held}
 use Rattle.geometry.specs.declared.Held.TheVariants as held
 
@@ -40,14 +40,14 @@ block_at_reply N S layout c s =
     on_accept number (cond (eqb j (N - 1)) (accepted 1 0) (accepted 0 (block_of N s j))) (refused number)
 
 -- the number and the values of each answer about a block's place
-unfoldable pub placed_reply : Placed → Reply
-placed_reply (placed.At card stripe) = accepted card stripe
-placed_reply placed.Beyond = refused 1
-placed_reply placed.OutOfRange = refused 5
+abbrev pub placed_reply : Result Placed Refusal → Reply
+placed_reply = reply_of (λ p. accepted p.card p.stripe)
+
+-- what is said of what a card holds
+abbrev pub said_of_held : Held → Reply
+said_of_held (held.Block L) = accepted 0 L
+said_of_held held.Parity = accepted 1 0
 
 -- the number and the values of each answer about what a card holds
-unfoldable pub held_reply : Held → Reply
-held_reply (held.Block L) = accepted 0 L
-held_reply held.Parity = accepted 1 0
-held_reply held.Beyond = refused 1
-held_reply held.OutOfRange = refused 5
+abbrev pub held_reply : Result Held Refusal → Reply
+held_reply = reply_of said_of_held

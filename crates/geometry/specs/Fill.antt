@@ -1,11 +1,10 @@
 -- Document 02, Q-1: the start of a fill, and how the fill place moves on. A fresh card is in the sleeve of the one that is out.
 -- Assumes nothing.
-use Rattle.std.specs.Prelude.{ℕ, ◌+◌, cond, List, [], ◌∷◌, ◌++◌, ◌≡◌, ltb, eqb}
-use Rattle.terms.specs.Reply.{Reply, accepted, refused, Row, row, first_row, on_accept}
+use Rattle.std.specs.Prelude.{ℕ, ◌+◌, cond, List, [], ◌∷◌, ◌++◌, ◌≡◌, ltb, eqb, Result, IfOk, ⊤}
+use Rattle.terms.specs.Reply.{Reply, accepted, refused, Row, row, first_row, on_accept, done_reply}
+use Rattle.terms.specs.declared.refusal.Refusal.{Refusal}
 use Rattle.geometry.specs.Limits.{none, no_fill, under_way}
-use Rattle.geometry.specs.Report.{state_rows, with_out, with_fill}
-use Rattle.geometry.specs.declared.fill.Started.{Started}
-use Rattle.geometry.specs.declared.fill.Started.TheVariants.{Begun, Refused}
+use Rattle.geometry.specs.Report.{state_rows, with_out, with_fill, state_reply}
 use Rattle.geometry.specs.declared.State.{State}
 
 -- start: 1, 4, 14 where no card is out, 15 where a fill is under way; it is lent the state alone
@@ -29,17 +28,12 @@ starting st =
 unfoldable pub moved_on : State → State
 moved_on st = cond (ltb (st.fill + 1) st.stripes) (with_fill st (st.fill + 1)) (with_out (with_fill st no_fill) none)
 
--- the reply of each answer
-abbrev pub started_reply : Started → Reply
-started_reply Begun = accepted 0 0
-started_reply (Refused k) = refused k
-
--- the answer that has a reply; an answer is the one that its reply names
-unfoldable pub started_of : Reply → Started
-started_of r = cond (eqb r.number 0) Begun (Refused r.number)
-
--- what start hands back is what the paper says
-pub record StartingIs (d : Starting) (answer : Started) (state : State) : Type 0 where
-  pub reply : started_reply answer ≡ d.reply
-  pub answered : answer ≡ started_of d.reply
+-- what start answers of a state that it is lent, and the state that it leaves, are what the paper says
+pub record StartingIs (d : Starting) (answer : Result ⊤ Refusal) (state : State) : Type 0 where
+  pub reply : done_reply answer ≡ d.reply
   pub state_left : state ≡ d.state
+
+-- what start answers of a state by value is what the paper says, and where it is accepted the state that it hands back is
+pub record StartedIs (d : Starting) (answer : Result State Refusal) : Type 0 where
+  pub reply : state_reply answer ≡ d.reply
+  pub state_left : IfOk answer (λ state. state ≡ d.state)

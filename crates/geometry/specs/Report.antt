@@ -1,10 +1,9 @@
 -- Document 01, "What the calls do", report: what it answers and the state that it leaves.
 -- Assumes nothing.
-use Rattle.std.specs.Prelude.{ℕ, cond, not, ◌&&◌, List, [], ◌∷◌, ◌++◌, ◌≡◌, leb, eqb}
-use Rattle.terms.specs.Reply.{Reply, accepted, refused, Row, row, first_row, on_accept}
+use Rattle.std.specs.Prelude.{ℕ, cond, not, ◌&&◌, List, [], ◌∷◌, ◌++◌, ◌≡◌, leb, eqb, Result, IfOk, ⊤}
+use Rattle.terms.specs.Reply.{Reply, accepted, refused, Row, row, first_row, on_accept, reply_of, done_reply}
+use Rattle.terms.specs.declared.refusal.Refusal.{Refusal}
 use Rattle.geometry.specs.Limits.{none, no_fill, under_way, beyond_state, is_lost, geometry_of, state_of}
-use Rattle.geometry.specs.declared.report.Reported.{Reported}
-use Rattle.geometry.specs.declared.report.Reported.TheVariants.{Marked, Refused}
 use Rattle.geometry.specs.declared.State.{State}
 
 -- what every call that is lent the state alone begins with, refusals 1 and 4
@@ -45,17 +44,16 @@ reporting st c =
     let number = report_refusal st c in
     record { reply = on_accept number (accepted 0 0) (refused number); state = on_accept number (marked st c) st }
 
--- the reply of each answer
-abbrev pub reported_reply : Reported → Reply
-reported_reply Marked = accepted 0 0
-reported_reply (Refused k) = refused k
-
--- the answer that has a reply; an answer is the one that its reply names
-unfoldable pub reported_of : Reply → Reported
-reported_of r = cond (eqb r.number 0) Marked (Refused r.number)
-
--- what report hands back is what the paper says
-pub record ReportingIs (d : Reporting) (answer : Reported) (state : State) : Type 0 where
-  pub reply : reported_reply answer ≡ d.reply
-  pub answered : answer ≡ reported_of d.reply
+-- what report answers of a state that it is lent, and the state that it leaves, are what the paper says
+pub record ReportingIs (d : Reporting) (answer : Result ⊤ Refusal) (state : State) : Type 0 where
+  pub reply : done_reply answer ≡ d.reply
   pub state_left : state ≡ d.state
+
+-- the reply of an answer that hands back the state
+abbrev pub state_reply : Result State Refusal → Reply
+state_reply = reply_of (λ state. accepted 0 0)
+
+-- what report answers of a state by value is what the paper says, and where it is accepted the state that it hands back is
+pub record ReportedIs (d : Reporting) (answer : Result State Refusal) : Type 0 where
+  pub reply : state_reply answer ≡ d.reply
+  pub state_left : IfOk answer (λ state. state ≡ d.state)

@@ -1,74 +1,50 @@
 // The start of a fill, and how its place moves on, on a state by value.
 // Assumes nothing.
 ghost use Rattle.std.specs.Prelude.{◌≡◌};
-ghost use Rattle.geometry.specs.Fill.{StartingIs, start_refusal, starting, moved_on};
+ghost use Rattle.terms.specs.Reply.{refused, done_reply};
+ghost use Rattle.geometry.specs.Fill.{StartedIs, start_refusal, starting, moved_on};
 
 use crate::State;
 use crate::limits::{NO_FILL, NONE};
-
-// What a start answers: the fill is begun; or the number of the refusal.
-#[derive(Clone, Copy)]
-pub enum Started {
-    Begun,
-    Refused(u64),
-}
-
-// The answer, and the state after the start.
-#[derive(Clone, Copy)]
-pub struct Start {
-    pub answer: Started,
-    pub state: State,
-}
+use terms::Refusal;
 
 impl State {
-    // The number by which a start is refused; 0: none.
-    fn start_refusal(self) -> u64
-        ensures { result ≡ start_refusal self }
+    // Whether a fill may be begun, or why not.
+    #[tactic(auto, using(crate::proofs::StateRows::state_refuses, crate::proofs::StateRows::state_passes), unfolding(crate::specs::Fill::start_refusal, crate::specs::Fill::start_rows, terms::specs::Reply::first_row))]
+    fn may_start(self) -> Result<(), Refusal>
+        ensures { done_reply result ≡ refused (start_refusal self) }
     {
-        let first = self.refusal();
-        if first != 0 {
-            return first;
-        }
+        self.usable()?;
         if self.out == NONE {
-            return 14;
+            return Err(Refusal::NoFill);
         }
         if self.fill != NO_FILL {
-            return 15;
+            return Err(Refusal::FillUnderWay);
         }
-        0
+        Ok(())
     }
 
     // Begins a fill: stripe 0 is to be filled first.
-    pub fn start(mut self) -> Start
-        ensures { StartingIs (starting self) result.answer result.state }
+    #[tactic(auto, using(terms::proofs::Answers::left_refused), unfolding(crate::specs::Fill::starting))]
+    pub fn start(self) -> Result<State, Refusal>
+        ensures { StartedIs (starting self) result }
     {
-        let number = self.start_refusal();
-        if number != 0 {
-            return Start {
-                answer: Started::Refused(number),
-                state: self,
-            };
-        }
-        self.fill = 0;
-        Start {
-            answer: Started::Begun,
-            state: self,
-        }
+        self.may_start()?;
+        Ok(State { fill: 0, ..self })
     }
 
     // The state after the stripe at the fill place is filled: the next one comes, and after the last no card is out.
-    pub fn moved_on(mut self) -> State
+    #[tactic(auto, unfolding(crate::specs::Fill::moved_on))]
+    pub fn moved_on(self) -> State
         ensures { result ≡ moved_on self }
     {
-        if self.stripes > self.fill {
-            let next = self.fill + 1;
-            if next < self.stripes {
-                self.fill = next;
-                return self;
-            }
+        match self.fill.checked_add(1) {
+            Some(next) if next < self.stripes => State { fill: next, ..self },
+            _ => State {
+                fill: NO_FILL,
+                out: NONE,
+                ..self
+            },
         }
-        self.fill = NO_FILL;
-        self.out = NONE;
-        self
     }
 }

@@ -14,7 +14,7 @@ mod store;
 
 // The numbers an array is opened with: cards (N), stripes (S), bytes in a block (B), request records (K), and the layout (4 or 5).
 #[repr(C)]
-#[derive(Clone, Copy)]
+#[derive(Clone, Copy, Debug, Default, PartialEq, Eq)]
 pub struct Geometry {
     pub cards: u64,
     pub stripes: u64,
@@ -26,7 +26,7 @@ pub struct Geometry {
 // An open array: its geometry, the card that is out (255: none), the mark of a lost array (0: not lost), and the fill place, the stripe of the fresh
 // card in that sleeve that is filled next (65,535: no fill is under way).
 #[repr(C)]
-#[derive(Clone, Copy)]
+#[derive(Clone, Copy, Debug, Default, PartialEq, Eq)]
 pub struct State {
     pub cards: u64,
     pub stripes: u64,
@@ -38,23 +38,16 @@ pub struct State {
     pub fill: u64,
 }
 
-// Where a block is: its card and its stripe, or what was refused.
-#[derive(Clone, Copy)]
-pub enum Placed {
-    At { card: u64, stripe: u64 },
-    // Refusal 1: the cards, the stripes or the layout are beyond their limits.
-    Beyond,
-    // Refusal 5: there is no such block.
-    OutOfRange,
+// Where a block is: its card and its stripe.
+#[derive(Clone, Copy, Debug, PartialEq, Eq)]
+pub struct Placed {
+    pub card: u64,
+    pub stripe: u64,
 }
 
-// What a card holds in a stripe: a block's number or parity, or what was refused.
-#[derive(Clone, Copy)]
+// What a card holds in a stripe: a block, by its number, or parity.
+#[derive(Clone, Copy, Debug, PartialEq, Eq)]
 pub enum Held {
     Block(u64),
     Parity,
-    // Refusal 1: the cards, the stripes or the layout are beyond their limits.
-    Beyond,
-    // Refusal 5: there is no such card or stripe.
-    OutOfRange,
 }

@@ -20,70 +20,43 @@ pub const NO_FILL: u64 = 65535;
 // A number that is no stripe's.
 pub const NO_STRIPE: u64 = 1024;
 
-// Whether x is from lo to hi.
-fn within(lo: u64, hi: u64, x: u64) -> bool
-    ensures { result ≡ within lo hi x }
-{
-    if x < lo {
-        return false;
-    }
-    x <= hi
-}
-
 // Whether N, S, B and K are within their limits.
+#[tactic(auto, unfolding(crate::specs::Limits::legal, terms::specs::Sets::within))]
 pub fn legal(cards: u64, stripes: u64, block: u64, records: u64) -> bool
     ensures { result ≡ legal cards stripes block records }
 {
-    if !within(3, 8, cards) {
-        return false;
-    }
-    if !within(1, 1024, stripes) {
-        return false;
-    }
-    if !within(16, 512, block) {
-        return false;
-    }
-    if block % 16 != 0 {
-        return false;
-    }
-    within(1, 8, records)
+    (3..=8).contains(&cards)
+        && (1..=1024).contains(&stripes)
+        && (16..=512).contains(&block)
+        && block % 16 == 0
+        && (1..=8).contains(&records)
 }
 
 // Whether there is a layout of this number.
+#[tactic(auto, unfolding(crate::specs::Limits::legal_layout, terms::specs::Sets::within))]
 fn legal_layout(layout: u64) -> bool
     ensures { result ≡ legal_layout layout }
 {
-    within(LEVEL_4, LEVEL_5, layout)
+    (LEVEL_4..=LEVEL_5).contains(&layout)
 }
 
 // Whether a fill place is 65,535, or one of S stripes with a card out.
+#[tactic(auto, unfolding(crate::specs::Limits::legal_fill))]
 fn legal_fill(stripes: u64, out: u64, fill: u64) -> bool
     ensures { result ≡ legal_fill stripes out fill }
 {
-    if fill == NO_FILL {
-        return true;
-    }
-    if fill >= stripes {
-        return false;
-    }
-    out != NONE
+    fill == NO_FILL || (fill < stripes && out != NONE)
 }
 
 impl Geometry {
     // Refusal 1, with the card that is out: whether N, S, B, K, the layout or that card is beyond its limits.
+    #[tactic(auto, unfolding(crate::specs::Limits::beyond, crate::specs::Limits::legal_out))]
     pub fn beyond(self, out: u64) -> bool
         ensures { result ≡ beyond self out }
     {
-        if !legal(self.cards, self.stripes, self.block, self.records) {
-            return true;
-        }
-        if !legal_layout(self.layout) {
-            return true;
-        }
-        if out < self.cards {
-            return false;
-        }
-        out != NONE
+        !(legal(self.cards, self.stripes, self.block, self.records)
+            && legal_layout(self.layout)
+            && (out < self.cards || out == NONE))
     }
 }
 
@@ -102,13 +75,11 @@ impl State {
     }
 
     // Refusal 1: whether a number of the state is beyond its limits.
+    #[tactic(auto, unfolding(crate::specs::Limits::beyond_state))]
     pub fn beyond(self) -> bool
         ensures { result ≡ beyond_state self }
     {
-        if self.geometry().beyond(self.out) {
-            return true;
-        }
-        !legal_fill(self.stripes, self.out, self.fill)
+        self.geometry().beyond(self.out) || !legal_fill(self.stripes, self.out, self.fill)
     }
 
     // Refusal 4: whether the array is lost.

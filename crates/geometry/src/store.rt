@@ -7,52 +7,46 @@ ghost use Rattle.geometry.specs.Asked.{image_size_in, cell_in};
 use crate::{State, legal};
 
 // Where a block starts that stands in this column of this row, in rows of so many blocks.
+#[tactic(auto, using(crate::proofs::Bounds::offset_fits))]
 fn offset(row: u64, width: u64, column: u64, block: u64) -> usize
     requires { (row ≤ 8) × (width ≤ 1024) × (column ≤ 1024) × (block ≤ 512) }
     ensures { result ≡ (row * width + column) * block }
 {
-    let first = row * width;
-    let number = first + column;
-    let bytes = number * block;
-    bytes as usize
+    ((row * width + column) * block) as usize
 }
 
 impl State {
     // Whether a card has a block in a stripe.
+    #[tactic(auto, unfolding(crate::specs::Store::in_image))]
     pub fn in_image(self, card: u64, stripe: u64) -> bool
         ensures { result ≡ in_image self card stripe }
     {
-        if !legal(self.cards, self.stripes, self.block, self.records) {
-            return false;
-        }
-        if self.cards <= card {
-            return false;
-        }
-        stripe < self.stripes
+        legal(self.cards, self.stripes, self.block, self.records)
+            && card < self.cards
+            && stripe < self.stripes
     }
 
     // The bytes of an image.
+    #[tactic(auto, using(crate::proofs::Bounds::legal_bounds, crate::proofs::Bounds::sizes_fit), unfolding(crate::specs::Asked::image_size_in, crate::specs::Store::image_size))]
     pub fn image_size(self) -> usize
         ensures { result ≡ image_size_in self }
     {
-        if !legal(self.cards, self.stripes, self.block, self.records) {
-            return 0;
+        if legal(self.cards, self.stripes, self.block, self.records) {
+            (self.cards * self.stripes * self.block) as usize
+        } else {
+            0
         }
-        let cards = self.cards;
-        let stripes = self.stripes;
-        let block = self.block;
-        let blocks = cards * stripes;
-        let bytes = blocks * block;
-        bytes as usize
     }
 
     // Where the block of a card and a stripe starts in the image.
+    #[tactic(auto, using(crate::proofs::Asked::in_image_law), unfolding(crate::specs::Asked::cell_in, crate::specs::Store::cell_at))]
     pub fn cell_at(self, card: u64, stripe: u64) -> usize
         ensures { result ≡ cell_in self card stripe }
     {
-        if !self.in_image(card, stripe) {
-            return 0;
+        if self.in_image(card, stripe) {
+            offset(card, self.stripes, stripe, self.block)
+        } else {
+            0
         }
-        offset(card, self.stripes, stripe, self.block)
     }
 }

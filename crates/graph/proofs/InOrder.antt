@@ -1,31 +1,27 @@
 -- A done set is closed where five tests on whole sets hold.
 -- Assumes nothing.
 use Prim.Native.Nat.{ℕ, ◌+◌, ◌-◌, ◌*◌, ◌/◌, ◌^◌, ◌≤◌, ◌<◌}
-use mathlib.Core.Bool.{Bool, true, false, and-true}
+use mathlib.Core.Bool.{Bool, true, false, not, ◌&&◌, ◌||◌, and-true}
 use mathlib.Core.Logic.{⊎_elim}
 use mathlib.Core.Path.{◌≡◌, refl, sym, ap, subst, ◌∙◌}
 use native.Mathlib.Nat.{lt_of_le_of_lt}
 use native.Mathlib.Omega.{arith}
-use borrow.Author.Tests.{eqb-true, eq-eqb, ne_eqb, ltb-true, ltb-false}
+use borrow.Author.Tests.{eqb-true, eqb-false, eq-eqb, ne_eqb, ltb-true, ltb-false}
 use lib.Bits.{bit_and, and_le_r}
-use lib.Dec.{ltb}
+use lib.Dec.{eqb, ltb}
 use lib.Pow.{ones_lt, shr-shr}
 use Rattle.terms.proofs.Bits.{bit_none, bit_full, bit_of_and, bit_set_of, set_of_bound, subset_elim, subset_intro}
-use Rattle.terms.proofs.Rows.{truth, true≢false}
+use Rattle.terms.proofs.Rows.{truth, true≢false, or_not_elim, or_not_intro}
 use Rattle.terms.specs.Sets.{bit, set_of}
-use Rattle.graph.specs.Asked.{step_set}
+use Rattle.graph.specs.Asked.{step_set, part_of, written, in_order_by}
 use Rattle.graph.specs.Order.{any_read, read_of, is_sum, before, cleared, closed}
 use Rattle.graph.specs.Steps.{Step, rd, xr, wr, step_of, step_numbers, by_graph, reads}
 use Rattle.graph.proofs.Forerunners.{any_read_at, any_read_past, sum_at_law, read_at_law, bit_steps}
-use Rattle.graph.proofs.Graphs.{graph}
+use Rattle.graph.proofs.Graphs.{Graph, plain, degraded, small, reconstruct, large, failed, nought, above, graph, by_graph_above}
 use Rattle.graph.proofs.Laws.{cleared_elim, cleared_intro, closed_bound, closed_elim, closed_intro, before_unit_write}
 use Rattle.graph.proofs.Positions.{position}
 use Rattle.graph.proofs.Rules.{both_ways, some_bit}
 use Rattle.graph.proofs.Numbers.{Numbered, reading, summing, writing, numbered, step_of_read, step_of_sum, step_of_write}
-
--- the units whose writes are done
-abbrev pub written : ℕ → ℕ → ℕ
-written n done = bit_and (done / 2 ^ (n + 2)) (2 ^ n - 1)
 
 pub written_bound : (n done : ℕ) → written n done < 2 ^ n
 written_bound n done = lt_of_le_of_lt (and_le_r (done / 2 ^ (n + 2)) (2 ^ n - 1)) (ones_lt n)
@@ -46,6 +42,50 @@ pub record InOrder (n g mask x done : ℕ) : Type 0 where
   pub small : g ≡ 3 → bit_and (written n done) done ≡ written n done
   pub reconstruct : g ≡ 4 → ¬ (written n done ≡ 0)
       → bit_and (set_of (n + 1) (reads n g mask x)) done ≡ set_of (n + 1) (reads n g mask x)
+
+all_four : {a b c d : Bool} → a ≡ true → b ≡ true → c ≡ true → d ≡ true → (a && b && c && d) ≡ true
+all_four e f g h = rw (e, f, g, h)
+
+each_four : (a b c d : Bool) → (a && b && c && d) ≡ true → (a ≡ true) × (b ≡ true) × (c ≡ true) × (d ≡ true)
+each_four true true true true e = (refl, refl, refl, refl)
+each_four false b c d e = absurd (true≢false (sym e))
+each_four true false c d e = absurd (true≢false (sym e))
+each_four true true false d e = absurd (true≢false (sym e))
+each_four true true true false e = absurd (true≢false (sym e))
+
+either : (a b : Bool) → (a ≡ false → b ≡ true) → (a || b) ≡ true
+either true b h = refl
+either false b h = h refl
+
+-- what comes before the units' writes, graph by graph
+units_small : (g : ℕ) (s r : Bool) → by_graph g true true s r true true true ≡ true → g ≡ 3 → s ≡ true
+unfolding by_graph
+units_small g s r e q = rw q at e
+
+units_reconstruct : (g : ℕ) (s r : Bool) → by_graph g true true s r true true true ≡ true → g ≡ 4 → r ≡ true
+unfolding by_graph
+units_reconstruct g s r e q = rw q at e
+
+units_pass : (n g mask x done : ℕ) → InOrder n g mask x done → Graph g
+    → by_graph g
+    true
+    true
+    (part_of (written n done) done)
+    (eqb (written n done) 0 || part_of (set_of (n + 1) (reads n g mask x)) done)
+    true
+    true
+    true
+    ≡ true
+unfolding by_graph part_of
+units_pass n _ mask x done o plain = refl
+units_pass n _ mask x done o degraded = refl
+units_pass n _ mask x done o small = eq-eqb _ _ (o.small refl)
+units_pass n _ mask x done o reconstruct =
+    either (eqb (written n done) 0) _ (λ e. eq-eqb _ _ (o.reconstruct refl (eqb-false (written n done) 0 e)))
+units_pass n _ mask x done o large = refl
+units_pass n _ mask x done o failed = refl
+units_pass n _ mask x done o nought = refl
+units_pass n g mask x done o (above h) = by_graph_above g _ _ _ _ _ _ _ h
 
 module _ (n g mask x done : ℕ) where
   abbrev R : ℕ
@@ -171,9 +211,23 @@ module _ (n g mask x done : ℕ) where
         cleared_intro n g mask x done (step_of n k) (λ j l e. before_done o j l k (numbered n k h) b e),
       ))
 
-  -- a test that holds exactly where the five do is the answer
-  pub decided : (t : Bool) → (t ≡ true → InOrder n g mask x done) → (InOrder n g mask x done → t ≡ true) → t ≡ closed n g mask x done
-  decided t f b = both_ways t (closed n g mask x done) (λ e. closed_of (f e)) (λ e. b (in_order e))
+  -- the tests, one after the other, hold exactly where the five do
+  pass : InOrder n g mask x done → in_order_by n g R (step_set n g mask x) done ≡ true
+  unfolding in_order_by part_of
+  pass o =
+      all_four (eq-eqb _ _ o.subset) (or_not_intro _ _ (λ b. eq-eqb _ _ (o.summed b))) (or_not_intro _ _ o.parity) (units_pass n g mask x done o (graph g))
 
-  pub refused : (InOrder n g mask x done → ⊥) → false ≡ closed n g mask x done
-  refused f = decided false (λ e. true≢false (sym e)) (λ o. absurd (f o))
+  passed : in_order_by n g R (step_set n g mask x) done ≡ true → InOrder n g mask x done
+  unfolding in_order_by part_of
+  passed e =
+      let t = each_four _ _ _ _ e in
+      record {
+        subset = eqb-true _ _ t.0;
+        summed = λ b. eqb-true _ _ (or_not_elim _ _ t.1 b);
+        parity = or_not_elim _ _ t.2;
+        small = λ q. eqb-true _ _ (units_small g _ _ t.3 q);
+        reconstruct = λ q z. eqb-true _ _ (rw (ne_eqb (written n done) 0 z) at (units_reconstruct g _ _ t.3 q));
+      }
+
+  pub in_order_of : (old all : ℕ) → old ≡ R → all ≡ step_set n g mask x → in_order_by n g old all done ≡ closed n g mask x done
+  in_order_of old all r w = rw (r, w) (both_ways _ _ (λ e. closed_of (passed e)) (λ e. pass (in_order e)))

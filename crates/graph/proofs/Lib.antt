@@ -7,6 +7,7 @@ pub mod Laws
 pub mod Shifts
 pub mod Rules
 pub mod Positions
+pub mod BySets
 pub mod Forerunners
 pub mod InOrder
 pub mod Sizes

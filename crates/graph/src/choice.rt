@@ -1,78 +1,69 @@
 // Which graph a request takes.
 ghost use Rattle.std.specs.Prelude.{◌≡◌};
-ghost use Rattle.terms.specs.Sets.{bit};
 ghost use Rattle.graph.specs.Choice.{unit_out_in, all_units, choose_read, choose_write, choose};
+ghost use Rattle.graph.specs.Named.{number_of_graph};
 
-// Whether i is in the set m.
-pub fn has(i: u64, m: u64) -> bool
-    ensures { result ≡ bit i m }
-{
-    if i >= 64 {
-        return false;
-    }
-    (m >> i) % 2 == 1
-}
+use crate::bits::{below, has};
+use crate::named::Graph;
 
 // All n units are in the mask.
+#[tactic(auto, unfolding(crate::specs::Choice::all_units))]
 fn all_units(n: u64, mask: u64) -> bool
     ensures { result ≡ all_units n mask }
 {
-    if n > 64 {
-        return false;
+    if n < 64 {
+        mask == below(n)
+    } else {
+        n == 64 && mask == u64::MAX
     }
-    if n == 64 {
-        return mask == 0xffff_ffff_ffff_ffff;
-    }
-    mask == (1 << n) - 1
 }
 
 // X is in the mask.
+#[tactic(auto, unfolding(crate::specs::Choice::unit_out_in, crate::specs::Choice::unit_out))]
 fn unit_out_in(n: u64, mask: u64, x: u64) -> bool
     ensures { result ≡ unit_out_in n mask x }
 {
-    if x >= n {
-        return false;
-    }
-    has(x, mask)
+    x < n && has(x, mask)
 }
 
-fn choose_read(n: u64, mask: u64, x: u64) -> u64
-    ensures { result ≡ choose_read n mask x }
+fn choose_read(n: u64, mask: u64, x: u64) -> Graph
+    ensures { number_of_graph result ≡ choose_read n mask x }
 {
     if unit_out_in(n, mask, x) {
-        return 2;
+        return Graph::DegradedRead;
     }
-    1
+    Graph::PlainRead
 }
 
 // The tests in the paper's order; the count of ones decides small against reconstruct write.
-fn choose_write(n: u64, mask: u64, x: u64) -> u64
-    ensures { result ≡ choose_write n mask x }
+fn choose_write(n: u64, mask: u64, x: u64) -> Graph
+    ensures { number_of_graph result ≡ choose_write n mask x }
 {
     if x == n {
-        return 6;
+        return Graph::ParityFailed;
     }
     if all_units(n, mask) {
-        return 5;
+        return Graph::LargeWrite;
     }
     if unit_out_in(n, mask, x) {
-        return 4;
+        return Graph::ReconstructWrite;
     }
     if x < n {
-        return 3;
+        return Graph::SmallWrite;
     }
     if 2 * (u64::count_ones(mask) as u64) < n {
-        return 3;
+        return Graph::SmallWrite;
     }
-    4
+    Graph::ReconstructWrite
 }
 
 // The graph that the table chooses.
-pub fn choose(n: u64, write: bool, mask: u64, x: u64) -> u64
-    ensures { result ≡ choose n write mask x }
+pub fn choose(n: u64, write: bool, mask: u64, x: u64) -> Graph
+    ensures { number_of_graph result ≡ choose n write mask x }
 {
     if write {
-        return choose_write(n, mask, x);
+        choose_write(n, mask, x)
+    } else {
+        choose_read(n, mask, x)
     }
-    choose_read(n, mask, x)
 }

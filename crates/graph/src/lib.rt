@@ -1,15 +1,22 @@
 // The graphs: which one a request takes, its steps, and what must come before each. Everything here is on numbers: n, the units of
-// a stripe; the mask; x, the position missing (above n: none); g, the graph; done, the done steps; k, a step's number.
+// a stripe; the mask; x, the position missing (above n: none); g, the graph's number; done, the done steps; k, a step's number.
 // Assumes nothing.
 #![tactic(auto)]
 
-pub use choice::{choose, has};
-pub use order::{Judged, after, complete, judge, part_of, ready, ready_by};
+pub use bits::{after, has, part_of};
+pub use choice::choose;
+pub use named::{Graph, UnknownGraph};
+pub use order::ready_by;
+pub use plan::{Judged, Plan};
 pub use steps::{Action, step_of};
 pub use sums::{sums_to_read, taken_news};
 
+mod bits;
 mod choice;
+mod named;
 mod order;
+mod plan;
 mod sets;
 mod steps;
 mod sums;
+mod units;

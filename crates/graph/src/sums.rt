@@ -4,27 +4,27 @@ ghost use Rattle.terms.specs.Sets.{set_of};
 ghost use Rattle.graph.specs.Asked.{few_units};
 ghost use Rattle.graph.specs.Sums.{takes_new, sums_to_read};
 
+use crate::named::Graph;
 use crate::sets::masked_set;
 
 // The positions whose blocks to write it takes: a write's new units.
+#[tactic(auto, using(crate::proofs::BySets::news_sets), unfolding(crate::specs::Steps::by_graph, crate::specs::Asked::few_units))]
 pub fn taken_news(n: u64, g: u64, mask: u64) -> u64
     ensures { result ≡ cond (few_units n) (set_of (n + 1) (takes_new n g mask)) 0 }
 {
     if n > 7 {
         return 0;
     }
-    if g < 3 {
-        return 0;
+    match Graph::try_from(g) {
+        Ok(Graph::SmallWrite | Graph::ReconstructWrite | Graph::LargeWrite) => masked_set(n, mask),
+        Ok(Graph::PlainRead | Graph::DegradedRead | Graph::ParityFailed) | Err(_) => 0,
     }
-    if g > 5 {
-        return 0;
-    }
-    masked_set(n, mask)
 }
 
 // It goes to the read block of X.
+#[tactic(auto, unfolding(crate::specs::Sums::sums_to_read))]
 pub fn sums_to_read(g: u64) -> bool
     ensures { result ≡ sums_to_read g }
 {
-    g == 2
+    Graph::try_from(g) == Ok(Graph::DegradedRead)
 }

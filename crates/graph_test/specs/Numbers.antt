@@ -3,7 +3,7 @@
 use Rattle.std.specs.Prelude.{ℕ, ◌+◌, ◌*◌, ◌/◌, cond, List, length, get_or}
 use Rattle.terms.specs.Lists.{tabulate}
 use Rattle.geometry.specs.declared.State.{State}
-use Rattle.graph.specs.declared.order.Judged.{Judged}
+use Rattle.graph.specs.declared.plan.Judged.{Judged}
 use Rattle.graph.specs.Steps.{Step, rd, xr, wr, nil}
 use Rattle.record.specs.Survey.{survey_of}
 use Rattle.record.specs.declared.Record.{Record}

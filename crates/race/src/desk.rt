@@ -2,7 +2,6 @@
 use crate::told;
 use crate::told::{Refused, Step};
 use crate::touch::Touch;
-use array::answers::Admitted;
 use geometry::{Geometry, LEVEL_5, NONE, State};
 use record::Record;
 use std::io;
@@ -35,18 +34,20 @@ pub struct Desk {
 
 impl Desk {
     // Opens the array over blank cards.
-    pub(crate) fn open(rt: &impl Print) -> io::Result<Desk> {
+    pub(crate) fn open(rt: &impl Print) -> io::Result<Option<Desk>> {
         let mut records = [record::free(); 2];
         let work = [0u8; 320];
         let image = [0u8; 400];
-        let opening = calls::open(SHAPE, NONE, &mut records, &work, &image);
-        told::opened(rt, opening)?;
-        Ok(Desk {
-            state: opening.state,
-            records,
-            work,
-            image,
-        })
+        let answer = calls::open(SHAPE, NONE, &mut records, &work, &image);
+        told::opened(rt, answer)?;
+        Ok(
+            answer.ok().map(|state| Desk {
+                state,
+                records,
+                work,
+                image,
+            }),
+        )
     }
 
     // The card of a block.
@@ -104,7 +105,7 @@ impl Desk {
             mask,
             payload,
         ) {
-            Admitted::Taken(i) => {
+            Ok(i) => {
                 if write {
                     told::taken(rt, i, self.record(i))?;
                 } else {
@@ -112,8 +113,8 @@ impl Desk {
                 }
                 Ok(Some(i))
             }
-            Admitted::Refused(number) => {
-                println!(rt; "  {}", Refused(number))?;
+            Err(refusal) => {
+                println!(rt; "  {}", Refused(refusal))?;
                 Ok(None)
             }
         }
@@ -212,7 +213,7 @@ impl Desk {
 
     // Reports a card, whose bytes turn to noise.
     pub(crate) fn report(&mut self, rt: &impl Print, card: u64) -> io::Result<()> {
-        told::reported(rt, calls::report(&mut self.state, card))?;
+        told::accepted(rt, "reported", calls::report(&mut self.state, card))?;
         rt.println("  its bytes are noise from now on")?;
         self.noise(card);
         Ok(())
@@ -220,7 +221,7 @@ impl Desk {
 
     // Starts the fill of a card, whose bytes are noise.
     pub(crate) fn start(&mut self, rt: &impl Print, card: u64) -> io::Result<()> {
-        told::started(rt, calls::start(&mut self.state))?;
+        told::accepted(rt, "start", calls::start(&mut self.state))?;
         self.noise(card);
         Ok(())
     }

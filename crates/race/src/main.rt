@@ -55,7 +55,9 @@ const LAST: [Touch; 10] = [
 
 // The race, from the opening to the last reading.
 fn race(rt: &impl Print) -> io::Result<()> {
-    let mut desk = Desk::open(rt)?;
+    let Some(mut desk) = Desk::open(rt)? else {
+        return Ok(());
+    };
     scenes::first_lap(rt, &mut desk, &FIRST)?;
     scenes::card_dies(rt, &mut desk, &LATER)?;
     scenes::race_goes_on(rt, &mut desk, &LATER)?;

@@ -1,75 +1,37 @@
 // What the calls answered, told in words.
 use crate::touch::{Touch, text};
-use array::answers::{Collected, Opened, Opening, Rebuilt, Stepped};
-use geometry::fill::Started;
-use geometry::report::Reported;
+use array::answers::Stepped;
 use geometry::{NONE, State};
-use graph::Action;
-use parity::Scan;
+use graph::{Action, Graph};
 use record::Record;
 use std::{fmt, io};
+use terms::Refusal;
 
-// The number by which a call is refused, and why.
+// That a call is refused: by the paper's number, and why; or where parity disagrees.
 #[derive(Clone, Copy)]
-pub(crate) struct Refused(pub u64);
+pub(crate) struct Refused(pub Refusal);
 
 impl fmt::Display for Refused {
     fn fmt<W: fmt::Write>(&self, f: &mut fmt::Formatter<W>) -> fmt::Result {
-        let why = match self.0 {
-            1 => "beyond the limits",
-            2 => "lent a wrong length",
-            3 => "the table is not sound",
-            4 => "the array is lost",
-            5 => "out of range",
-            6 => "no units, or none such",
-            7 => "a payload or result of a wrong length",
-            8 => "the stripe is held",
-            9 => "no record is free",
-            10 => "the record is not open, or not finished",
-            11 => "that step is not ready",
-            12 => "a card is out",
-            13 => "parity disagrees",
-            14 => "no card is out, or no fill is begun",
-            15 => "a fill is under way",
-            _ => "no such number",
-        };
-        write!(f, "refused by {} ({why})", self.0)
+        let refusal = self.0;
+        if let Refusal::ParityDisagrees { stripe, byte } = refusal {
+            return write!(f, "parity disagrees in stripe {stripe}, byte {byte}");
+        }
+        write!(f, "refused by {} ({refusal})", refusal.number())
     }
 }
 
 // A graph's number and its name.
 #[derive(Clone, Copy)]
-struct Graph(u64);
+struct Numbered(u64);
 
-impl fmt::Display for Graph {
+impl fmt::Display for Numbered {
     fn fmt<W: fmt::Write>(&self, f: &mut fmt::Formatter<W>) -> fmt::Result {
-        let name = match self.0 {
-            1 => "plain read",
-            2 => "degraded read",
-            3 => "small write",
-            4 => "reconstruct write",
-            5 => "large write",
-            6 => "parity failed",
-            _ => "none",
-        };
-        write!(f, "graph {} ({name})", self.0)
-    }
-}
-
-// The lowest place where parity disagrees.
-#[derive(Clone, Copy)]
-struct Disagreement {
-    stripe: u64,
-    byte: u64,
-}
-
-impl fmt::Display for Disagreement {
-    fn fmt<W: fmt::Write>(&self, f: &mut fmt::Formatter<W>) -> fmt::Result {
-        write!(
-            f,
-            "parity disagrees in stripe {}, byte {}",
-            self.stripe, self.byte
-        )
+        let number = self.0;
+        match Graph::try_from(number) {
+            Ok(graph) => write!(f, "graph {number} ({graph})"),
+            Err(_) => Ok(()),
+        }
     }
 }
 
@@ -95,27 +57,29 @@ impl fmt::Display for Step {
             return Ok(());
         };
         match graph::step_of(n, self.k) {
-            Action::Read(p) if p == n => write!(f, ", read parity from card {}", self.card(p)),
-            Action::Read(p) => write!(f, ", read unit {p} from card {}", self.card(p)),
-            Action::Sum => f.write_str(", exclusive or"),
-            Action::Write(p) if p == n => write!(f, ", write parity to card {}", self.card(p)),
-            Action::Write(p) => write!(f, ", write unit {p} to card {}", self.card(p)),
-            Action::Nothing => Ok(()),
+            Some(Action::Read(p)) if p == n => {
+                write!(f, ", read parity from card {}", self.card(p))
+            }
+            Some(Action::Read(p)) => write!(f, ", read unit {p} from card {}", self.card(p)),
+            Some(Action::Sum) => f.write_str(", exclusive or"),
+            Some(Action::Write(p)) if p == n => {
+                write!(f, ", write parity to card {}", self.card(p))
+            }
+            Some(Action::Write(p)) => write!(f, ", write unit {p} to card {}", self.card(p)),
+            None => Ok(()),
         }
     }
 }
 
 // What open answered, with the array's numbers.
-pub(crate) fn opened(rt: &impl Print, opening: Opening) -> io::Result<()> {
-    let state = opening.state;
+pub(crate) fn opened(rt: &impl Print, answer: Result<State, Refusal>) -> io::Result<()> {
     print!(rt; "The board opens: ")?;
-    match opening.answer {
-        Opened::Open => println!(rt;
+    match answer {
+        Ok(state) => println!(rt;
             "{} cards, {} stripes, blocks of {} bytes, {} records",
             state.cards, state.stripes, state.block, state.records
         ),
-        Opened::Refused(number) => rt.println(Refused(number)),
-        Opened::Disagrees(stripe, byte) => rt.println(Disagreement { stripe, byte }),
+        Err(refusal) => rt.println(Refused(refusal)),
     }
 }
 
@@ -124,48 +88,44 @@ pub(crate) fn taken(rt: &impl Print, i: u64, r: Record) -> io::Result<()> {
     println!(rt;
         "  admitted as record {i}: stripe {}, {}",
         r.stripe,
-        Graph(r.graph)
+        Numbered(r.graph)
     )
 }
 
 // That a read of a block was admitted as record i, with its graph.
 pub(crate) fn asked(rt: &impl Print, block: u64, i: u64, r: Record) -> io::Result<()> {
-    print!(rt; "  block {block}: record {i}, {}", Graph(r.graph))
+    print!(rt; "  block {block}: record {i}, {}", Numbered(r.graph))
 }
 
 // What step answered.
-pub(crate) fn stepped(rt: &impl Print, step: Step, answer: Stepped) -> io::Result<()> {
+pub(crate) fn stepped(
+    rt: &impl Print,
+    step: Step,
+    answer: Result<Stepped, Refusal>,
+) -> io::Result<()> {
     print!(rt; "  {step}: ")?;
     match answer {
-        Stepped::Done => rt.println("done"),
-        Stepped::Chosen(g) => println!(rt; "that card is out, chosen afresh: {}", Graph(g)),
-        Stepped::Refused(number) => rt.println(Refused(number)),
+        Ok(Stepped::Done) => rt.println("done"),
+        Ok(Stepped::Chosen(g)) => {
+            println!(rt; "that card is out, chosen afresh: {}", Numbered(g))
+        }
+        Err(refusal) => rt.println(Refused(refusal)),
     }
 }
 
-// What report answered.
-pub(crate) fn reported(rt: &impl Print, answer: Reported) -> io::Result<()> {
-    print!(rt; "  reported: ")?;
+// What a report or a start answered.
+pub(crate) fn accepted(rt: &impl Print, what: &str, answer: Result<(), Refusal>) -> io::Result<()> {
     match answer {
-        Reported::Marked => rt.println("accepted"),
-        Reported::Refused(number) => rt.println(Refused(number)),
-    }
-}
-
-// What start answered.
-pub(crate) fn started(rt: &impl Print, answer: Started) -> io::Result<()> {
-    print!(rt; "  start: ")?;
-    match answer {
-        Started::Begun => rt.println("accepted"),
-        Started::Refused(number) => rt.println(Refused(number)),
+        Ok(()) => println!(rt; "  {what}: accepted"),
+        Err(refusal) => println!(rt; "  {what}: {}", Refused(refusal)),
     }
 }
 
 // What a rebuild step answered, with the card that is out after it.
-pub(crate) fn rebuilt(rt: &impl Print, answer: Rebuilt, out: u64) -> io::Result<()> {
+pub(crate) fn rebuilt(rt: &impl Print, answer: Result<u64, Refusal>, out: u64) -> io::Result<()> {
     match answer {
-        Rebuilt::Filled(stripe) => println!(rt; "Rebuild: stripe {stripe} is filled")?,
-        Rebuilt::Refused(number) => println!(rt; "Rebuild: {}", Refused(number))?,
+        Ok(stripe) => println!(rt; "Rebuild: stripe {stripe} is filled")?,
+        Err(refusal) => println!(rt; "Rebuild: {}", Refused(refusal))?,
     }
     if out == NONE {
         rt.println("  no card is out")?;
@@ -174,26 +134,26 @@ pub(crate) fn rebuilt(rt: &impl Print, answer: Rebuilt, out: u64) -> io::Result<
 }
 
 // What collect answered of a write.
-pub(crate) fn collected(rt: &impl Print, answer: Collected) -> io::Result<()> {
+pub(crate) fn collected(rt: &impl Print, answer: Result<u64, Refusal>) -> io::Result<()> {
     match answer {
-        Collected::Steps(steps) => println!(rt; "  collected, steps: {steps}"),
-        Collected::Refused(number) => println!(rt; "  {}", Refused(number)),
+        Ok(steps) => println!(rt; "  collected, steps: {steps}"),
+        Err(refusal) => println!(rt; "  {}", Refused(refusal)),
     }
 }
 
 // What collect answered of a read, what came back, and whether it is what was sent.
 pub(crate) fn given(
     rt: &impl Print,
-    answer: Collected,
+    answer: Result<u64, Refusal>,
     held: &Touch,
     sent: &Touch,
 ) -> io::Result<()> {
     match answer {
-        Collected::Steps(steps) => {
+        Ok(steps) => {
             print!(rt; ", steps: {steps}, gives ")?;
             compared(rt, held, sent)
         }
-        Collected::Refused(number) => rt.println(Refused(number)),
+        Err(refusal) => rt.println(Refused(refusal)),
     }
 }
 
@@ -208,12 +168,10 @@ pub(crate) fn compared(rt: &impl Print, held: &Touch, sent: &Touch) -> io::Resul
 }
 
 // What a scan answered.
-pub(crate) fn scanned(rt: &impl Print, answer: Scan) -> io::Result<()> {
-    print!(rt; "The scan: ")?;
+pub(crate) fn scanned(rt: &impl Print, answer: Result<(), Refusal>) -> io::Result<()> {
     match answer {
-        Scan::Right => rt.println("parity is right"),
-        Scan::Disagrees { stripe, byte } => rt.println(Disagreement { stripe, byte }),
-        Scan::Refused(number) => rt.println(Refused(number)),
+        Ok(()) => rt.println("The scan: parity is right"),
+        Err(refusal) => println!(rt; "The scan: {}", Refused(refusal)),
     }
 }
 

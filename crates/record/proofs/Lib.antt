@@ -1,8 +1,6 @@
 -- Laws of records and tables, by subject.
-pub mod Same
-pub mod Counting
 pub mod Zero
-pub mod Loops
+pub mod HeldBefore
 pub mod Clashes
 pub mod Eight
 pub mod Filling
@@ -11,5 +9,6 @@ pub mod Soundness
 pub mod Surveyed
 pub mod SurveyTells
 pub mod Looks
+pub mod Looked
 pub mod SoundTables
 pub mod Rest

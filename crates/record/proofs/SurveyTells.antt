@@ -2,7 +2,7 @@
 -- stripes that it holds.
 -- Assumes nothing.
 use Prim.Native.Nat.{ℕ, ◌≤◌, ◌<◌}
-use mathlib.Core.Bool.{true, not}
+use mathlib.Core.Bool.{Bool, true, not}
 use mathlib.Core.List.{List}
 use mathlib.Core.Logic.{⊎_elim}
 use mathlib.Core.Path.{◌≡◌, sym, ap, ◌∙◌}
@@ -13,10 +13,10 @@ use lib.ListN.{length, get_or, get_or-eq_default}
 use Rattle.terms.proofs.Lists.{length_tabulate, get_d_tabulate, every_elim, every_intro}
 use Rattle.terms.proofs.Rows.{truth}
 use Rattle.terms.specs.Lists.{tabulate, every, among}
+use Rattle.terms.proofs.Sets.{all_below_elim, all_below_intro}
 use Rattle.terms.specs.Sets.{all_below}
 use Rattle.geometry.specs.declared.State.{State}
 use Rattle.graph.proofs.Rules.{both_ways}
-use Rattle.record.proofs.Loops.{all_every}
 use Rattle.record.specs.Asked.{no_stripe, held_stripe}
 use Rattle.record.specs.Life.{free}
 use Rattle.record.specs.Seen.{held_before}
@@ -25,6 +25,12 @@ use Rattle.record.specs.Survey.{looks_at, unseen, survey_of, held_in}
 use Rattle.record.specs.declared.Record.{Record}
 use Rattle.record.specs.declared.Survey.{Survey}
 use Rattle.record.proofs.Surveyed.{looked, holds_stripe, looks_many, free_holds}
+
+-- what holds at each place of a list holds of every element
+all_every : {A : Type 0} (p : A → Bool) (l : List A) (d : A) → all_below (length l) (λ i. p (get_or l i d)) ≡ every p l
+all_every p l d =
+    both_ways (all_below (length l) (λ i. p (get_or l i d))) (every p l) (λ e. every_intro p l d (all_below_elim (length l) (λ i. p (get_or l i d)) e))
+    (λ e. all_below_intro (length l) (λ i. p (get_or l i d)) (λ i h. every_elim p l i d e h))
 
 module _ (st : State) (l : List Record) where
   pub survey_len : (survey_of st l).len ≡ length l

@@ -23,11 +23,10 @@ use Rattle.graph.proofs.Rules.{both_ways}
 use Rattle.record.proofs.Clashes.{eqb_sym, apart_elim, apart_intro}
 use Rattle.record.proofs.Clauses.{fit, open_not_free}
 use Rattle.record.proofs.Filling.{entry, entry_at, filling, filling_more, filling_same, filling_is}
-use Rattle.record.proofs.Same.{same_survey}
 use Rattle.record.specs.Asked.{few_in, no_stripe, held_stripe, sound_record_in}
 use Rattle.record.specs.Life.{free, is_free, is_open, units_of}
 use Rattle.record.specs.Seen.{looks_at_many, to_see, started, held_before, fine, still_sound, still_free, seen, seen_to}
-use Rattle.record.specs.Sound.{all_zero, sound_record, clash, apart, sound, holds, held, lowest_free}
+use Rattle.record.specs.Sound.{all_zero, sound_record, clash, apart, sound, holds, lowest_free}
 use Rattle.record.specs.Survey.{looks_at, unseen, survey_of}
 use Rattle.record.specs.declared.Record.{Record}
 use Rattle.record.specs.declared.Survey.{Survey}
@@ -131,6 +130,10 @@ module _ (n : ℕ) (p : ℕ → Bool) where
       (truth (ltb (lowest n p) n))
 
 -- ---- the survey, record by record
+
+-- two surveys are equal where all that they tell is
+same_survey : (v w : Survey) → v.len ≡ w.len → v.sound ≡ w.sound → v.held ≡ w.held → v.free ≡ w.free → v ≡ w
+same_survey v w a b c d = λ i. record { len = a i; sound = b i; held = c i; free = d i }
 
 module _ (st : State) (l : List Record) where
   abbrev rec : ℕ → Record

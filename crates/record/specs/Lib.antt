@@ -1,5 +1,6 @@
 -- The request record, what becomes of it, when a table is sound, and what one look at a record or a table finds.
 pub mod Life
+pub mod Phase
 pub mod Sound
 pub mod Asked
 pub mod Survey

@@ -3,18 +3,20 @@
 #![tactic(auto)]
 
 pub use life::{admitted, free};
+pub use phase::Phase;
 pub use sound::legal_mask;
 
 mod life;
+mod phase;
 mod sound;
 mod surveys;
 mod tables;
 
 // A request record. A free one is all zero.
 #[repr(C)]
-#[derive(Clone, Copy, PartialEq)]
+#[derive(Clone, Copy, PartialEq, Eq, Default, Debug)]
 pub struct Record {
-    // free, open or finished: 0, 1, 2
+    // the number of a Phase
     pub phase: u64,
     // read or write: 0, 1
     pub write: u64,
@@ -39,7 +41,7 @@ pub struct Table {
 
 // What one look at a table finds: how many records it has, whether it is sound, the stripe that each of up to eight holds (or a number
 // that is no stripe's), and the lowest free record (its length where none is free).
-#[derive(Clone, Copy)]
+#[derive(Clone, Copy, PartialEq, Eq, Debug)]
 pub struct Survey {
     pub len: u64,
     pub sound: bool,
@@ -49,7 +51,7 @@ pub struct Survey {
 
 // What one look at a record finds: whether it is sound, and, of a sound one that is not free, the position that was missing when its
 // graph was chosen, the one that is missing now, the graph's steps and the positions that it reads; zeros of any other.
-#[derive(Clone, Copy)]
+#[derive(Clone, Copy, PartialEq, Eq, Default, Debug)]
 pub struct Look {
     pub sound: bool,
     pub x: u64,

@@ -4,17 +4,14 @@ ghost use Rattle.record.specs.Asked.{ready_in, can_count};
 ghost use Rattle.record.specs.Look.{can_mark, after_step, after_choice};
 ghost use Rattle.record.specs.Life.{free, units_of, chosen_at, admitted};
 
-use crate::Record;
+use crate::{Phase, Record};
 use geometry::State;
 
 // The data units of a stripe, n = N-1.
 pub(crate) fn units_of(cards: u64) -> u64
     ensures { result ≡ cards - 1 }
 {
-    if cards == 0 {
-        return 0;
-    }
-    cards - 1
+    cards.saturating_sub(1)
 }
 
 pub(crate) fn units(state: State) -> u64
@@ -27,26 +24,18 @@ pub(crate) fn units(state: State) -> u64
 pub fn free() -> Record
     ensures { result ≡ free }
 {
-    Record {
-        phase: 0,
-        write: 0,
-        stripe: 0,
-        mask: 0,
-        graph: 0,
-        chosen: 0,
-        done: 0,
-        count: 0,
-    }
+    Record::default()
 }
 
 // A request at admission: open, its graph chosen, no step done and a count of 0.
+#[tactic(auto, unfolding(crate::specs::Life::admitted))]
 pub fn admitted(state: State, write: bool, stripe: u64, mask: u64) -> Record
     ensures { result ≡ admitted state write stripe mask }
 {
     let n = units(state);
-    let chosen_graph = graph::choose(n, write, mask, state.missing_in(stripe));
+    let chosen_graph = graph::choose(n, write, mask, state.missing_in(stripe)).number();
     Record {
-        phase: 1,
+        phase: Phase::Open.number(),
         write: write as u64,
         stripe,
         mask,
@@ -55,16 +44,6 @@ pub fn admitted(state: State, write: bool, stripe: u64, mask: u64) -> Record
         done: 0,
         count: 0,
     }
-}
-
-// Finished after the last step, else open.
-fn phase_after(last: bool) -> u64
-    ensures { result ≡ cond last 2 1 }
-{
-    if last {
-        return 2;
-    }
-    1
 }
 
 impl Record {
@@ -76,41 +55,37 @@ impl Record {
     }
 
     // Step k is ready.
+    #[tactic(auto, unfolding(crate::specs::Asked::ready_in))]
     pub fn is_ready(self, state: State, k: u64) -> bool
         ensures { result ≡ ready_in state self k }
     {
-        let n = units(state);
-        graph::ready(
-            n,
-            self.graph,
-            self.mask,
-            self.chosen_at(state),
-            self.done,
-            k,
-        )
+        let plan = graph::Plan {
+            units: units(state),
+            graph: self.graph,
+            mask: self.mask,
+            missing: self.chosen_at(state),
+        };
+        plan.ready(self.done, k)
     }
 
     // One more step can be counted.
+    #[tactic(auto, using(std::proofs::lemmas::Bool::Decides::nat_tests), unfolding(crate::specs::Asked::can_count))]
     fn can_count(self) -> bool
         ensures { result ≡ can_count self }
     {
-        self.count < 0xffff_ffff_ffff_ffff
+        self.count < u64::MAX
     }
 
     // Step k can be marked done: it is a place of the done set, and not done yet.
+    #[tactic(auto, using(std::proofs::lemmas::Bool::Decides::nat_tests), unfolding(crate::specs::Look::can_mark))]
     fn can_mark(self, k: u64) -> bool
         ensures { result ≡ can_mark self k }
     {
-        if k > 63 {
-            return false;
-        }
-        if graph::has(k, self.done) {
-            return false;
-        }
-        self.can_count()
+        k <= 63 && !graph::has(k, self.done) && self.can_count()
     }
 
     // The record after its step k is done: finished where none of the steps given is wanting; as it was where k can't be marked.
+    #[tactic(auto, using(std::proofs::lemmas::Bool::Decides::nat_tests), unfolding(crate::specs::Look::after_step, crate::specs::Look::can_mark, crate::specs::Asked::can_count, graph::specs::Asked::after_or))]
     pub fn after_step(mut self, k: u64, steps: u64) -> Record
         ensures { result ≡ after_step self k steps }
     {
@@ -118,13 +93,19 @@ impl Record {
             return self;
         }
         let done = graph::after(self.done, k);
-        self.phase = phase_after(graph::part_of(steps, done));
+        let phase = if graph::part_of(steps, done) {
+            Phase::Finished
+        } else {
+            Phase::Open
+        };
+        self.phase = phase.number();
         self.done = done;
         self.count += 1;
         self
     }
 
     // The record after a fresh choice with this position missing; as it was where no step can be counted.
+    #[tactic(auto, using(std::proofs::lemmas::Bool::Decides::nat_tests), unfolding(crate::specs::Look::after_choice, crate::specs::Asked::can_count))]
     pub fn after_choice(mut self, state: State, out: u64) -> Record
         ensures { result ≡ after_choice state self out }
     {
@@ -132,9 +113,8 @@ impl Record {
             return self;
         }
         let n = units(state);
-        let write = self.write == 1;
-        self.phase = 1;
-        self.graph = graph::choose(n, write, self.mask, out);
+        self.graph = graph::choose(n, self.is_write(), self.mask, out).number();
+        self.phase = Phase::Open.number();
         self.chosen = state.out_in(self.stripe);
         self.done = 0;
         self.count += 1;

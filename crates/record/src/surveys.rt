@@ -10,75 +10,45 @@ use crate::{Record, Survey};
 use geometry::{NO_STRIPE, State};
 
 // Whether a table of so many records is looked at: any other is refused by the limits or by its length, whatever stands in it.
+#[tactic(auto, using(std::proofs::lemmas::Bool::Decides::nat_tests), unfolding(crate::specs::Seen::looks_at_many))]
 fn looks_at(state: State, len: u64) -> bool
     ensures { result ≡ looks_at_many state len }
 {
-    if len > 8 {
-        return false;
-    }
-    if state.cards > 8 {
-        return false;
-    }
-    state.stripes <= 1024
-}
-
-// What was right so far, where the record is sound.
-fn so_far(right: bool, state: State, r: Record) -> bool
-    ensures { result ≡ (right && sound_record_in state r) }
-{
-    if !right {
-        return false;
-    }
-    r.is_sound(state)
-}
-
-// Whether both hold.
-fn both(a: bool, b: bool) -> bool
-    ensures { result ≡ (a && b) }
-{
-    if !a {
-        return false;
-    }
-    b
+    len <= 8 && state.cards <= 8 && state.stripes <= 1024
 }
 
 impl Survey {
     // How many records of a table of so many are looked at: all or none.
+    #[tactic(auto, unfolding(crate::specs::Seen::to_see))]
     pub fn to_see(state: State, len: u64) -> u64
         ensures { result ≡ to_see state len }
     {
-        if looks_at(state, len) {
-            return len;
-        }
-        0
+        if looks_at(state, len) { len } else { 0 }
     }
 
     // What is known of a table of so many records before the first is looked at.
+    #[tactic(auto, unfolding(crate::specs::Seen::started))]
     pub fn started(state: State, len: u64) -> Survey
         ensures { result ≡ started state len }
     {
-        let held = [NO_STRIPE; 8];
-        let sound = looks_at(state, len);
         Survey {
             len,
-            sound,
-            held,
+            sound: looks_at(state, len),
+            held: [NO_STRIPE; 8],
             free: len,
         }
     }
 
     // One of the first i records holds the stripe.
+    #[tactic(auto, using(crate::proofs::HeldBefore::held_take, crate::proofs::HeldBefore::held_one, std::proofs::lemmas::List::take_all))]
     fn held_before(self, stripe: u64, i: usize) -> bool
         requires { i ≤ 8 }
         ensures { result ≡ held_before self stripe i }
     {
-        let mut j = 0;
-        while j < i {
-            let h = self.held[j];
-            if h == stripe {
+        for held in &self.held[..i] {
+            if *held == stripe {
                 return true;
             }
-            j += 1;
         }
         false
     }
@@ -87,36 +57,18 @@ impl Survey {
     fn first_free(self, i: u64) -> u64
         ensures { result ≡ cond (eqb self.free self.len) i self.free }
     {
-        if self.free != self.len {
-            return self.free;
-        }
-        i
+        if self.free == self.len { i } else { self.free }
     }
 
     // The survey after a free record at i.
     fn seen_free(self, i: u64, r: Record) -> Survey
         ensures { result ≡ record { len = self.len; sound = self.sound && all_zero r; held = self.held; free = cond (eqb self.free self.len) i self.free } }
     {
-        let sound = both(self.sound, r.all_zero());
-        let free = self.first_free(i);
-        let held = self.held;
         Survey {
-            len: self.len,
-            sound,
-            held,
-            free,
+            sound: self.sound && r.all_zero(),
+            free: self.first_free(i),
+            ..self
         }
-    }
-
-    // What was right so far, where no record before i holds the stripe.
-    fn alone(self, right: bool, stripe: u64, i: usize) -> bool
-        requires { i ≤ 8 }
-        ensures { result ≡ (right && not (held_before self stripe i)) }
-    {
-        if !right {
-            return false;
-        }
-        !self.held_before(stripe, i)
     }
 
     // The survey after an open record at i on the stripe, with all right so far.
@@ -124,79 +76,68 @@ impl Survey {
         requires { i < 8 }
         ensures { result ≡ record { len = self.len; sound = right && not (held_before self stripe i); held = set self.held i stripe; free = self.free } }
     {
-        let sound = self.alone(right, stripe, i);
+        let sound = right && !self.held_before(stripe, i);
         let mut held = self.held;
         held[i] = stripe;
         Survey {
-            len: self.len,
             sound,
             held,
-            free: self.free,
+            ..self
         }
     }
 
-    // The survey after record r at i; as it was where there is no such place. It is made anew each time: a copy of the whole would also carry
-    // the bytes between its fields from turn to turn of a loop.
+    // The survey after record r at i; as it was where there is no such place.
+    #[tactic(auto, using(std::proofs::lemmas::Bool::Decides::nat_tests), unfolding(crate::specs::Seen::seen, crate::specs::Seen::still_sound, crate::specs::Seen::still_free, crate::specs::Seen::fine))]
     pub fn seen(self, state: State, i: u64, r: Record) -> Survey
         ensures { result ≡ seen state self i r }
     {
-        let held = self.held;
         if i > 7 {
-            return Survey {
-                len: self.len,
-                sound: self.sound,
-                held,
-                free: self.free,
-            };
+            return self;
         }
-        if r.phase == 0 {
+        if r.is_free() {
             return self.seen_free(i, r);
         }
-        let right = so_far(self.sound, state, r);
-        let open = r.phase == 1;
+        let right = self.sound && r.is_sound(state);
+        let open = r.is_open();
         if open {
-            return self.seen_open(right, r.stripe, i as usize);
-        }
-        Survey {
-            len: self.len,
-            sound: right,
-            held,
-            free: self.free,
+            self.seen_open(right, r.stripe, i as usize)
+        } else {
+            Survey {
+                sound: right,
+                ..self
+            }
         }
     }
 
     // The survey after a record at i that is left out: it counts as a free one, and is not looked at. As it was where there is no such place.
+    #[tactic(auto, using(std::proofs::lemmas::Bool::Decides::nat_tests))]
     fn left_out(self, i: u64) -> Survey
         ensures { result ≡ cond (ltb i 8) (record { len = self.len; sound = self.sound; held = self.held; free = cond (eqb self.free self.len) i self.free }) self }
     {
-        let held = self.held;
         if i > 7 {
-            return Survey {
-                len: self.len,
-                sound: self.sound,
-                held,
-                free: self.free,
-            };
-        }
-        Survey {
-            len: self.len,
-            sound: self.sound,
-            held,
-            free: self.first_free(i),
+            self
+        } else {
+            Survey {
+                free: self.first_free(i),
+                ..self
+            }
         }
     }
 
     // The survey after record r at i, which is left out where i is this place.
+    #[tactic(auto, using(std::proofs::lemmas::Bool::Decides::nat_tests), unfolding(crate::specs::Seen::seen, crate::specs::Seen::still_sound, crate::specs::Seen::still_free, crate::specs::Seen::fine, crate::specs::Sound::all_zero))]
     pub fn seen_but(self, state: State, i: u64, r: Record, but: u64) -> Survey
         ensures { result ≡ seen state self i (cond (eqb i but) free r) }
     {
         if i == but {
-            return self.left_out(i);
+            self.left_out(i)
+        } else {
+            self.seen(state, i, r)
         }
-        self.seen(state, i, r)
     }
 
     // An open request holds the stripe.
+    #[tactic(auto, using(crate::proofs::SurveyTells::held_eight))]
     pub fn is_held(self, stripe: u64) -> bool
         ensures { result ≡ held_in self stripe }
     {

@@ -20,33 +20,29 @@ pub fn count(table: &[Record]) -> u64
 pub fn at(table: &[Record], i: u64) -> Record
     ensures { result ≡ get_or table.now i free }
 {
-    if i < table.len() as u64 {
-        return table[i as usize];
-    }
-    record::free()
+    table.get(i as usize).copied().unwrap_or_default()
 }
 
-// The record at i is replaced; past the end nothing is.
+// The record at i is replaced; past the end nothing is. By an index: of what a slice's get_mut lends, a proof knows no element after the write.
 pub fn replace(table: &mut [Record], i: u64, r: Record)
     ensures { table.new ≡ set table.old i r }
 {
-    if i < table.len() as u64 {
-        table[i as usize] = r;
+    let i = i as usize;
+    if i < table.len() {
+        table[i] = r;
     }
 }
 
 // What one look at the rest of the table finds, with a record left out: at a place from 8 on, none is.
+#[tactic(auto, using(record::proofs::Rest::seen_rest, record::proofs::Surveyed::survey_is, record::proofs::Surveyed::to_see_most), unfolding(record::specs::Seen::seen_to))]
 pub fn surveyed(table: &[Record], state: State, but: u64) -> Survey
     ensures { result ≡ survey_but state table.now but }
 {
     let n = count(table);
-    let top = Survey::to_see(state, n);
+    let top = Survey::to_see(state, n) as usize;
     let mut survey = Survey::started(state, n);
-    let mut i: u64 = 0;
-    while i < top {
-        let r = at(table, i);
-        survey = survey.seen_but(state, i, r, but);
-        i += 1;
+    for (i, r) in table[..top].iter().enumerate() {
+        survey = survey.seen_but(state, i as u64, *r, but);
     }
     survey
 }
@@ -56,11 +52,6 @@ pub fn freed(table: &mut [Record], asked: bool)
     ensures { table.new ≡ cond asked (replicate (length table.old) free) table.old }
 {
     if asked {
-        let none = record::free();
-        let mut i: usize = 0;
-        while i < table.len() {
-            table[i] = none;
-            i += 1;
-        }
+        table.fill(record::free());
     }
 }

@@ -4,3 +4,4 @@ pub mod Rows
 pub mod Sets
 pub mod Bits
 pub mod Refusals
+pub mod Answers

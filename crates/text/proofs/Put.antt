@@ -48,3 +48,7 @@ module _ (l : List ℕ) where
 pub put_part : (l : List ℕ) (at k : ℕ) (b t : List ℕ) → b ≡ t → k ≡ length t → put_mid at k l b ≡ put at t l
 unfolding put
 put_part l at k b t e f = rw (e, f) (ap (λ (rest : List ℕ). take at l ++ (t ++ rest)) (drop-drop (length t) at l))
+
+-- what was put of a text was put of one that is the same
+pub put_same : (l : List ℕ) (at : ℕ) {r : ℕ} {l' : List ℕ} (t u : List ℕ) → t ≡ u → r ≡ at + length u → l' ≡ put at u l → (r ≡ at + length t) × (l' ≡ put at t l)
+put_same l at t u e r p = (r ∙ ap (λ (x : List ℕ). at + length x) (sym e), p ∙ ap (λ (x : List ℕ). put at x l) (sym e))

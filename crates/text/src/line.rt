@@ -2,11 +2,12 @@
 ghost use Rattle.std.specs.Prelude.{◌≡◌, false, ◌+◌, ◌*◌, ◌≤◌, ◌<◌, length};
 ghost use Rattle.terms.specs.Lists.{put};
 ghost use Rattle.geometry.specs.Answers.{beyond_places};
-ghost use Rattle.text.specs.Line.{held_text, cards_text, written};
+ghost use Rattle.text.specs.Line.{held_text, answer_text, cards_text, written};
 
 use crate::number::put_number;
 use crate::{beyond, held_at};
 use geometry::Held;
+use terms::Refusal;
 
 // A room that every line fits in: four bytes for the stripe, five for each card, one for the newline.
 const ROOM: usize = 45;
@@ -23,8 +24,18 @@ fn put_held(held: Held, out: &mut [u8], at: usize) -> usize
             out[at] = b'P';
             at + 1
         }
-        Held::Beyond => at,
-        Held::OutOfRange => at,
+    }
+}
+
+// Puts what a card is said to hold, and nothing of a refusal.
+fn put_answer(answer: Result<Held, Refusal>, out: &mut [u8], at: usize) -> usize
+    requires { at + length (answer_text answer) ≤ length out.old }
+    ensures value { result ≡ at + length (answer_text answer) }
+    ensures out_after { out.new ≡ put at (answer_text answer) out.old }
+{
+    match answer {
+        Ok(held) => put_held(held, out, at),
+        Err(_) => at,
     }
 }
 
@@ -39,7 +50,7 @@ fn put_cards(cards: u64, stripes: u64, stripe: u64, out: &mut [u8], at: usize) -
     let mut end = at;
     for card in 0..cards {
         out[end] = b' ';
-        end = put_held(held_at(cards, stripes, card, stripe), out, end + 1);
+        end = put_answer(held_at(cards, stripes, card, stripe), out, end + 1);
     }
     end
 }

@@ -1,6 +1,5 @@
 -- `table::surveyed` meets its contract. The loop's invariant: the records passed have been looked at, but the one left out.
 -- Assumes nothing.
-use Prim.Native.Nat.{◌-◌, ◌≤◌}
 use mathlib.Core.Path.{◌≡◌}
 use lib.ListN.{set}
 use Rattle.record.specs.Life.{free}
@@ -8,7 +7,4 @@ use Rattle.record.specs.Seen.{seen_to}
 use Rattle.table.proofs.surveyed.Given as goal
 
 abbrev pub invariant-loop-i : goal.invariant-loop-i
-invariant-loop-i l = (l.i ≤ l.top) × (l.survey ≡ seen_to l.state (set l.table l.but free) l.i)
-
-abbrev pub decreases-loop-i : goal.decreases-loop-i
-decreases-loop-i l = l.top - l.i
+invariant-loop-i l = l.survey ≡ seen_to l.state (set l.table l.but free) l.i

@@ -7,6 +7,6 @@ pub returns-then-write : goal.returns-then-write
 unfolding choose
 returns-then-write c = simp c.if-write.true c.choose_write.ensures
 
-pub returns : goal.returns
+pub returns-else-write : goal.returns-else-write
 unfolding choose
-returns c = simp c.if-write.false c.choose_read.ensures
+returns-else-write c = simp c.if-write.false c.choose_read.ensures

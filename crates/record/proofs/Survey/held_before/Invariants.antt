@@ -1,15 +1,11 @@
 -- `held_before` meets its contract. The loop's invariant: none of the records passed holds the stripe.
 -- Assumes nothing.
-use Prim.Native.Nat.{◌-◌, ◌≤◌}
-use mathlib.Core.Bool.{true, not}
+use mathlib.Core.Bool.{false}
 use mathlib.Core.Path.{◌≡◌}
 use lib.Dec.{eqb}
-use lib.ListN.{get_or}
-use Rattle.terms.specs.Sets.{all_below}
+use lib.ListN.{take}
+use Rattle.std.specs.List.{list_any}
 use Rattle.record.proofs.Survey.held_before.Given as goal
 
-abbrev pub invariant-loop-j : goal.invariant-loop-j
-invariant-loop-j l = (l.j ≤ l.i) × (all_below l.j (λ k. not (eqb (get_or l.self.held k 0) l.stripe)) ≡ true)
-
-abbrev pub decreases-loop-j : goal.decreases-loop-j
-decreases-loop-j l = l.i - l.j
+abbrev pub invariant-loop-held : goal.invariant-loop-held
+invariant-loop-held l = list_any (λ y. eqb y l.stripe) (take l.held-index l.held-items) ≡ false
