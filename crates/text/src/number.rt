@@ -27,6 +27,8 @@ pub(crate) fn read_number(text: &[u8]) -> Option<u64>
 }
 
 // Puts the decimal text of n into out from a place on, and answers the place behind it.
+// (The slice and the place go hand in hand through all that puts: a writer that held both would have to say the same of them, since `write_line` is lent any
+// slice and its clauses say what stands in it.)
 pub(crate) fn put_number(n: u64, out: &mut [u8], at: usize) -> usize
     requires { at + length (decimal n) ≤ length out.old }
     ensures value { result ≡ at + length (decimal n) }
