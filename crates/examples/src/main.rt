@@ -2,12 +2,20 @@
 // N = 5 and S = 5 unless said.
 #![tactic(auto)]
 
-use array::answers::{Admission, Admitted, Opened};
-use geometry::{Geometry, LEVEL_5, NONE, Placed};
-use record::Table;
-use telling::{count, refused, words};
+use geometry::{Geometry, LEVEL_5, NONE};
+use record::Record;
+use std::{fmt, io};
+use terms::Refusal;
 
-mod numbers;
+// That a call was refused, by the paper's number.
+#[derive(Clone, Copy)]
+struct Refused(Refusal);
+
+impl fmt::Display for Refused {
+    fn fmt<W: fmt::Write>(&self, f: &mut fmt::Formatter<W>) -> fmt::Result {
+        write!(f, "refused by {}", self.0.number())
+    }
+}
 
 // A geometry with one record, in layout 5.
 fn shape(cards: u64, stripes: u64, block: u64) -> Geometry {
@@ -20,98 +28,80 @@ fn shape(cards: u64, stripes: u64, block: u64) -> Geometry {
     }
 }
 
-// A table of one free record.
-fn one_free() -> Table {
-    let r = record::free();
-    let records = [r; 8];
-    Table { records, len: 1 }
-}
-
 // Tells where a block is.
-fn tell_block(rt: &impl Print, block: u64) {
-    count(rt, b"block ", block);
-    words(rt, b": ");
-    let answer = shape(5, 5, 16).place(block);
-    match answer {
-        Placed::At { card, stripe } => {
-            count(rt, b"card ", card);
-            count(rt, b", stripe ", stripe);
-            words(rt, b"\n");
-        }
-        _ => refused(rt, numbers::placed(answer)),
+fn tell_block(rt: &impl Print, block: u64) -> io::Result<()> {
+    match shape(5, 5, 16).place(block) {
+        Ok(place) => println!(rt;
+            "block {block}: card {}, stripe {}",
+            place.card, place.stripe
+        ),
+        Err(refusal) => println!(rt; "block {block}: {}", Refused(refusal)),
     }
 }
 
 // Tells how an array of this geometry opens, lent what is right for 5 cards, 5 stripes and blocks of 16 bytes.
-fn tell_open(rt: &impl Print, name: &[u8], geometry: Geometry) {
+fn tell_open(rt: &impl Print, name: &str, geometry: Geometry) -> io::Result<()> {
+    let mut records = [record::free()];
     let work = [0u8; 160];
     let image = [0u8; 400];
-    let answer = array::open(geometry, NONE, one_free(), &work, &image).answer;
-    words(rt, name);
-    match answer {
-        Opened::Open => words(rt, b"accepted\n"),
-        _ => refused(rt, numbers::opened(answer)),
+    match calls::open(geometry, NONE, &mut records, &work, &image) {
+        Ok(_) => println!(rt; "{name}: accepted"),
+        Err(refusal) => println!(rt; "{name}: {}", Refused(refusal)),
     }
 }
 
-// Admits a request of stripe 0, on an array of zeros with a card out or none.
-fn ask(out: u64, write: bool, mask: u64, payload: &[u8]) -> Admission {
+// The record of a request of stripe 0, on an array of zeros with a card out or none.
+fn ask(out: u64, write: bool, mask: u64, payload: &[u8]) -> Result<Record, Refusal> {
+    let mut records = [record::free()];
     let mut work = [0u8; 160];
     let image = [0u8; 400];
-    let state = array::open(shape(5, 5, 16), out, one_free(), &work, &image).state;
-    array::admit(
+    let state = calls::open(shape(5, 5, 16), out, &mut records, &work, &image)?;
+    calls::admit(
         state,
-        one_free(),
+        &mut records,
         &mut work,
         &image,
         write,
         0,
         mask,
         payload,
-    )
+    )?;
+    Ok(records[0])
 }
 
 // Tells the graph of a write of all four units.
-fn tell_graph(rt: &impl Print, name: &[u8], out: u64) {
-    let payload = [0u8; 64];
-    let asked = ask(out, true, 15, &payload);
-    let answer = asked.answer;
-    words(rt, name);
-    match answer {
-        Admitted::Taken(_) => {
-            count(rt, b"graph ", asked.record.graph);
-            words(rt, b"\n");
-        }
-        Admitted::Refused(number) => refused(rt, number),
+fn tell_graph(rt: &impl Print, name: &str, out: u64) -> io::Result<()> {
+    match ask(out, true, 15, &[0u8; 64]) {
+        Ok(record) => println!(rt; "{name}: graph {}", record.graph),
+        Err(refusal) => println!(rt; "{name}: {}", Refused(refusal)),
     }
 }
 
 // Tells whether a read of a mask is admitted.
-fn tell_mask(rt: &impl Print, mask: u64) {
-    let answer = ask(NONE, false, mask, b"").answer;
-    count(rt, b"mask ", mask);
-    words(rt, b": ");
-    match answer {
-        Admitted::Taken(_) => words(rt, b"accepted\n"),
-        Admitted::Refused(number) => refused(rt, number),
+fn tell_mask(rt: &impl Print, mask: u64) -> io::Result<()> {
+    match ask(NONE, false, mask, b"") {
+        Ok(_) => println!(rt; "mask {mask}: accepted"),
+        Err(refusal) => println!(rt; "mask {mask}: {}", Refused(refusal)),
     }
 }
 
+// Tells every example.
+fn tell_all(rt: &impl Print) -> io::Result<()> {
+    tell_block(rt, 19)?;
+    tell_block(rt, 20)?;
+    tell_graph(rt, "none out, m=4", NONE)?;
+    tell_graph(rt, "parity out, m=4", geometry::card_at(5, LEVEL_5, 0, 4))?;
+    tell_open(rt, "N=2", shape(2, 5, 16))?;
+    tell_open(rt, "N=9", shape(9, 5, 16))?;
+    tell_open(rt, "B=24", shape(5, 5, 24))?;
+    tell_open(rt, "S=0", shape(5, 0, 16))?;
+    tell_open(rt, "S=1025", shape(5, 1025, 16))?;
+    tell_mask(rt, 0)?;
+    tell_mask(rt, 16)?;
+    tell_mask(rt, 15)
+}
+
+// A write that fails ends the telling and not the program, which ends as it does where all is told.
 fn main(rt: HostRuntime) {
-    tell_block(&rt, 19);
-    tell_block(&rt, 20);
-    tell_graph(&rt, b"none out, m=4: ", NONE);
-    tell_graph(
-        &rt,
-        b"parity out, m=4: ",
-        geometry::card_at(5, LEVEL_5, 0, 4),
-    );
-    tell_open(&rt, b"N=2: ", shape(2, 5, 16));
-    tell_open(&rt, b"N=9: ", shape(9, 5, 16));
-    tell_open(&rt, b"B=24: ", shape(5, 5, 24));
-    tell_open(&rt, b"S=0: ", shape(5, 0, 16));
-    tell_open(&rt, b"S=1025: ", shape(5, 1025, 16));
-    tell_mask(&rt, 0);
-    tell_mask(&rt, 16);
-    tell_mask(&rt, 15);
+    let _ = tell_all(&rt);
 }

@@ -3,28 +3,27 @@
 
 ghost use Rattle.std.specs.Prelude.{◌≤◌, length};
 
+use std::io;
 use std::io::Read;
-use text::Asked;
+use text::Shape;
 
-// Prints the line of a stripe, and answers whether it was written.
-fn print_line(rt: &impl Print, cards: u64, stripes: u64, stripe: u64) -> bool {
+// Prints the line of a stripe.
+fn print_line(rt: &impl Print, shape: Shape, stripe: u64) -> io::Result<()> {
     let mut line = [0u8; 45];
-    let n = text::write_line(cards, stripes, stripe, &mut line);
-    rt.write_all(&line[..n]).is_ok()
+    let n = text::write_line(shape.cards, shape.stripes, stripe, &mut line);
+    rt.write_all(&line[..n])
 }
 
 // Prints the lines of all stripes, ascending, and stops where one cannot be written.
-fn print_layout(rt: &impl Print, cards: u64, stripes: u64) {
-    let mut stripe = 0;
-    while stripe < stripes {
-        if !print_line(rt, cards, stripes, stripe) {
-            return;
-        }
-        stripe += 1;
+fn print_layout(rt: &impl Print, shape: Shape) -> io::Result<()> {
+    for stripe in 0..shape.stripes {
+        print_line(rt, shape, stripe)?;
     }
+    Ok(())
 }
 
 // Reads until the buffer is full, the input ends or a read fails, and answers how many bytes were put at the front of the buffer.
+// (std has none that says so without a heap: `read_exact` does not say how much came of an input that is too short, and `read_to_end` fills a Vec.)
 fn read_full(from: &mut impl Read, buffer: &mut [u8]) -> usize
     ensures { result ≤ length buffer.new }
 {
@@ -39,15 +38,13 @@ fn read_full(from: &mut impl Read, buffer: &mut [u8]) -> usize
     n
 }
 
-// An input that asks for a layout has at most seven bytes, so one that fills the buffer is bad, and is not read to its end.
+// An input that asks for a layout has at most seven bytes, so one that fills the buffer is bad, and is not read to its end. A write that fails
+// ends the printing and not the program, which ends as it does where all is printed.
 fn main(rt: HostRuntime) {
     let mut input = [0u8; 16];
     let n = read_full(&mut rt.stdin(), &mut input);
-    let asked = text::read_input(&input[..n]);
-    match asked {
-        Asked::Shape { cards, stripes } => print_layout(&rt, cards, stripes),
-        Asked::Bad => {
-            let _ = rt.write_all(b"bad\n");
-        }
-    }
+    let _ = match text::read_input(&input[..n]) {
+        Some(shape) => print_layout(&rt, shape),
+        None => rt.println("bad"),
+    };
 }

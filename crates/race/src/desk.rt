@@ -1,242 +1,243 @@
-// The race desk: all that goes from call to call, by value, and the library's calls over it, told as they are made.
-use crate::script::tell;
-use crate::{script, told};
-use geometry::State;
-use parity::Scan;
-use record::{Record, Table};
+// The race desk: all that goes from call to call, lent to the library's calls, and told as they are made.
+use crate::told;
+use crate::told::{Refused, Step};
+use crate::touch::Touch;
+use geometry::{Geometry, LEVEL_5, NONE, State};
+use record::Record;
+use std::io;
 
-// The state, the table, the work store and the image; the place of the record that was admitted last, and whether the last touch that was read is
-// as it was sent.
-#[derive(Clone, Copy)]
+// More steps than any graph has.
+const STEPS: u64 = 17;
+
+// The race's array: five cards, five stripes, a touch in each block of 16 bytes, two requests at a time.
+const SHAPE: Geometry = Geometry {
+    cards: 5,
+    stripes: 5,
+    block: 16,
+    records: 2,
+    layout: LEVEL_5,
+};
+
+// The mask of a block's unit alone.
+pub(crate) fn unit_of(block: u64) -> u64 {
+    1 << (block % 4)
+}
+
+// The state, the table, the work store and the image.
+#[derive(Drop)]
 pub struct Desk {
-    pub state: State,
-    pub table: Table,
-    pub work: [u8; 320],
-    pub image: [u8; 400],
-    pub place: u64,
-    pub same: bool,
-}
-
-// A table of so many free records.
-pub(crate) fn blank(len: u64) -> Table {
-    let r = record::free();
-    let records = [r; 8];
-    Table { records, len }
-}
-
-// The table with a record at a place; as it was where there is no such place.
-fn with(table: Table, place: u64, r: Record) -> Table {
-    let len = table.len;
-    let mut records = table.records;
-    if place >= len {
-        return table;
-    }
-    if place >= 8 {
-        return table;
-    }
-    let at = place as usize;
-    records[at] = r;
-    Table { records, len }
-}
-
-// The lowest step of a record that is ready; 17, which is no step, where none is.
-fn next_step(state: State, r: Record) -> u64 {
-    let mut k = 0;
-    while k < 17 {
-        if r.is_ready(state, k) {
-            return k;
-        }
-        k += 1;
-    }
-    k
-}
-
-// The highest number in a set; 64 where it is empty.
-fn highest(set: u64) -> u64 {
-    let above = u64::leading_zeros(set);
-    if above >= 64 {
-        return 64;
-    }
-    (63 - above) as u64
-}
-
-// Whether two records agree in every number.
-fn agree(a: Record, b: Record) -> bool {
-    ((a.phase ^ b.phase)
-        | (a.write ^ b.write)
-        | (a.stripe ^ b.stripe)
-        | (a.mask ^ b.mask)
-        | (a.graph ^ b.graph)
-        | (a.chosen ^ b.chosen)
-        | (a.done ^ b.done)
-        | (a.count ^ b.count))
-        == 0
+    state: State,
+    records: [Record; 2],
+    work: [u8; 320],
+    image: [u8; 400],
 }
 
 impl Desk {
-    // The record at a place.
-    pub(crate) fn record(self, i: u64) -> Record {
-        let table = self.table;
-        table.at(i)
+    // Opens the array over blank cards.
+    pub(crate) fn open(rt: &impl Print) -> io::Result<Option<Desk>> {
+        let mut records = [record::free(); 2];
+        let work = [0u8; 320];
+        let image = [0u8; 400];
+        let answer = calls::open(SHAPE, NONE, &mut records, &work, &image);
+        told::opened(rt, answer)?;
+        Ok(
+            answer.ok().map(|state| Desk {
+                state,
+                records,
+                work,
+                image,
+            }),
+        )
+    }
+
+    // The card of a block.
+    pub(crate) fn card_of(&self, block: u64) -> u64 {
+        geometry::card_at(self.state.cards, self.state.layout, block / 4, block % 4)
+    }
+
+    // Record i.
+    fn record(&self, i: u64) -> Record {
+        table::at(&self.records, i)
+    }
+
+    // Step k of record i.
+    fn named(&self, i: u64, k: u64) -> Step {
+        Step {
+            state: self.state,
+            stripe: self.record(i).stripe,
+            k,
+        }
     }
 
     // The lowest ready step of record i.
-    pub(crate) fn next(self, i: u64) -> u64 {
-        let state = self.state;
-        next_step(state, self.record(i))
+    fn next(&self, i: u64) -> Option<u64> {
+        let record = self.record(i);
+        (0..STEPS).find(|&k| record.is_ready(self.state, k))
     }
 
     // The highest done step of record i.
-    pub(crate) fn last(self, i: u64) -> u64 {
-        highest(self.record(i).done)
+    fn last(&self, i: u64) -> Option<u64> {
+        let record = self.record(i);
+        (0..STEPS).rev().find(|&k| graph::has(k, record.done))
     }
 
-    // Whether another desk has the same records at the two places of the race's table.
-    pub(crate) fn same_table(self, other: Desk) -> bool {
-        if !agree(self.record(0), other.record(0)) {
-            return false;
-        }
-        agree(self.record(1), other.record(1))
+    // The highest done step of record i and its lowest ready one.
+    pub(crate) fn last_and_next(&self, i: u64) -> Option<(Step, Step)> {
+        Some((self.named(i, self.last(i)?), self.named(i, self.next(i)?)))
     }
 
-    // Whether another desk has the same work store.
-    pub(crate) fn same_work(self, other: Desk) -> bool {
-        let a = self.work;
-        let b = other.work;
-        a == b
-    }
-
-    // The desk after a call that left a work store, an image, and a record at a place.
-    fn after(self, work: [u8; 320], image: [u8; 400], place: u64, r: Record) -> Desk {
-        let state = self.state;
-        let before = self.table;
-        let table = with(before, place, r);
-        Desk {
-            state,
-            table,
-            work,
-            image,
-            place,
-            same: false,
-        }
-    }
-
-    // Admits a request of some units of the stripe of a block.
+    // Admits a request of some units of the stripe of a block, and answers its record's place.
     pub(crate) fn admit(
-        self,
+        &mut self,
         rt: &impl Print,
         block: u64,
         write: bool,
         mask: u64,
         payload: &[u8],
-    ) -> Desk {
-        let state = self.state;
-        let before = self.table;
-        let mut work = self.work;
-        let image = self.image;
-        let made = array::admit(
-            state,
-            before,
-            &mut work,
-            &image,
+    ) -> io::Result<Option<u64>> {
+        match calls::admit(
+            self.state,
+            &mut self.records,
+            &mut self.work,
+            &self.image,
             write,
             block / 4,
             mask,
             payload,
-        );
-        let answer = made.answer;
-        let r = made.record;
-        told::admitted(rt, answer, write, block, r.stripe, r.graph);
-        self.after(work, image, made.place, r)
-    }
-
-    // Tells what step k of record i is.
-    pub(crate) fn name(self, rt: &impl Print, i: u64, k: u64) {
-        let state = self.state;
-        told::step_name(rt, state.cards, state.layout, self.record(i).stripe, k);
+        ) {
+            Ok(i) => {
+                if write {
+                    told::taken(rt, i, self.record(i))?;
+                } else {
+                    told::asked(rt, block, i, self.record(i))?;
+                }
+                Ok(Some(i))
+            }
+            Err(refusal) => {
+                println!(rt; "  {}", Refused(refusal))?;
+                Ok(None)
+            }
+        }
     }
 
     // Takes step k of record i, and tells what came of it where it is aloud.
-    pub(crate) fn step(self, rt: &impl Print, i: u64, k: u64, aloud: bool) -> Desk {
-        let state = self.state;
-        let before = self.table;
-        let mut work = self.work;
-        let mut image = self.image;
-        let made = array::step(state, before, &mut work, &mut image, i, k);
-        let answer = made.answer;
+    fn step(&mut self, rt: &impl Print, i: u64, k: u64, aloud: bool) -> io::Result<()> {
+        let answer = calls::step(
+            self.state,
+            &mut self.records,
+            &mut self.work,
+            &mut self.image,
+            i,
+            k,
+        );
         if aloud {
-            tell(rt, script::INDENT);
-            self.name(rt, i, k);
-            told::stepped(rt, answer);
+            told::stepped(rt, self.named(i, k), answer)?;
         }
-        let r = made.record;
-        self.after(work, image, made.place, r)
+        Ok(())
     }
 
-    // Collects record i: a write, where nothing was sent, or a read, whose units are compared with what was sent.
-    pub(crate) fn collect(self, rt: &impl Print, i: u64, sent: &[u8]) -> Desk {
-        let state = self.state;
-        let before = self.table;
-        let work = self.work;
-        let mut result = [0u8; 16];
-        let made = array::collect(state, before, &work, i, &mut result);
-        let answer = made.answer;
-        let same = told::given(rt, answer, &result, sent);
-        let r = made.record;
-        let table = with(before, made.place, r);
-        let image = self.image;
-        Desk {
-            state,
-            table,
-            work,
-            image,
-            place: i,
-            same,
+    // Takes the lowest ready step of record i, again and again while there is one, at most so many times.
+    pub(crate) fn run(
+        &mut self,
+        rt: &impl Print,
+        i: u64,
+        most: u64,
+        aloud: bool,
+    ) -> io::Result<()> {
+        for _ in 0..most {
+            let Some(k) = self.next(i) else {
+                return Ok(());
+            };
+            self.step(rt, i, k, aloud)?;
         }
+        Ok(())
+    }
+
+    // The rest of a write, and its collection.
+    pub(crate) fn finish(&mut self, rt: &impl Print, i: u64, aloud: bool) -> io::Result<()> {
+        self.run(rt, i, STEPS, aloud)?;
+        let answer = calls::collect(self.state, &mut self.records, &self.work, i, &mut []);
+        told::collected(rt, answer)
+    }
+
+    // A write of some units of the stripe of a block, from its first step to its last.
+    pub(crate) fn write(
+        &mut self,
+        rt: &impl Print,
+        block: u64,
+        mask: u64,
+        sent: &[u8],
+        aloud: bool,
+    ) -> io::Result<()> {
+        match self.admit(rt, block, true, mask, sent)? {
+            Some(i) => self.finish(rt, i, aloud),
+            None => Ok(()),
+        }
+    }
+
+    // A read of one block from its first step to its last, told beside what was sent; answers whether it gives that.
+    pub(crate) fn read(&mut self, rt: &impl Print, block: u64, sent: &Touch) -> io::Result<bool> {
+        let Some(i) = self.admit(rt, block, false, unit_of(block), b"")? else {
+            return Ok(false);
+        };
+        self.run(rt, i, STEPS, false)?;
+        let mut held = [0u8; 16];
+        let answer = calls::collect(self.state, &mut self.records, &self.work, i, &mut held);
+        told::given(rt, answer, &held, sent)?;
+        Ok(held == *sent)
+    }
+
+    // A write that is refused, since another request holds its stripe, and alters nothing.
+    pub(crate) fn turn_away(
+        &mut self,
+        rt: &impl Print,
+        block: u64,
+        sent: &Touch,
+    ) -> io::Result<()> {
+        let records = self.records;
+        let work = self.work;
+        self.admit(rt, block, true, unit_of(block), sent)?;
+        told::kept(rt, self.records == records, self.work == work)
     }
 
     // Takes a rebuild step, and tells what came of it.
-    pub(crate) fn rebuild(self, rt: &impl Print) -> Desk {
-        let before = self.state;
-        let table = self.table;
-        let work = self.work;
-        let mut image = self.image;
-        let made = array::rebuild(before, table, &mut image);
-        let answer = made.answer;
-        let state = made.state;
-        told::rebuilt(rt, answer, state.out);
-        Desk {
-            state,
-            table,
-            work,
-            image,
-            place: self.place,
-            same: false,
-        }
+    pub(crate) fn rebuild(&mut self, rt: &impl Print) -> io::Result<()> {
+        let answer = calls::rebuild(&mut self.state, &self.records, &mut self.image);
+        told::rebuilt(rt, answer, self.state.out)
     }
 
     // Scans the stripes that no open request holds.
-    pub(crate) fn scan(self) -> Scan {
-        let state = self.state;
-        let table = self.table;
-        let image = self.image;
-        array::scan(state, table, &image)
+    pub(crate) fn scan(&self, rt: &impl Print) -> io::Result<()> {
+        told::scanned(rt, calls::scan(self.state, &self.records, &self.image))
     }
 
-    // The desk in another state, with every block of a card turned to noise.
-    pub(crate) fn noisy(self, state: State, card: u64) -> Desk {
-        let table = self.table;
-        let work = self.work;
-        let mut image = self.image;
+    // Reports a card, whose bytes turn to noise.
+    pub(crate) fn report(&mut self, rt: &impl Print, card: u64) -> io::Result<()> {
+        told::accepted(rt, "reported", calls::report(&mut self.state, card))?;
+        rt.println("  its bytes are noise from now on")?;
+        self.noise(card);
+        Ok(())
+    }
+
+    // Starts the fill of a card, whose bytes are noise.
+    pub(crate) fn start(&mut self, rt: &impl Print, card: u64) -> io::Result<()> {
+        told::accepted(rt, "start", calls::start(&mut self.state))?;
+        self.noise(card);
+        Ok(())
+    }
+
+    // Turns every block of a card to noise.
+    fn noise(&mut self, card: u64) {
         let noise = [0xa5u8; 80];
-        block::carry(&mut image, state.cell_at(card, 0), &noise, 0, 80);
-        Desk {
-            state,
-            table,
-            work,
-            image,
-            place: 0,
-            same: false,
-        }
+        block::carry(&mut self.image, self.state.cell_at(card, 0), &noise, 0, 80);
+    }
+
+    // What a card holds, or held, in a stripe, inferred from the other cards.
+    pub(crate) fn inferred(&self, card: u64, stripe: u64) -> Touch {
+        let mut image = self.image;
+        parity::restore(self.state, card, stripe, &mut image);
+        let mut held = [0u8; 16];
+        block::copy(&mut held, self.state.cell(&image, card, stripe));
+        held
     }
 }

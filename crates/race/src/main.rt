@@ -2,67 +2,72 @@
 // every touch is read back. Each line tells what the library's own calls answered.
 #![tactic(auto)]
 
-use bytes::touches_from;
 use desk::Desk;
-use geometry::{Geometry, LEVEL_5, NONE};
+use std::io;
+use touch::Touch;
 
-mod bytes;
 mod desk;
 mod scenes;
-mod script;
 mod told;
+mod touch;
 
-// The race's array: five cards, five stripes, a touch in each block of 16 bytes, two requests at a time.
-fn shape() -> Geometry {
-    Geometry {
-        cards: 5,
-        stripes: 5,
-        block: 16,
-        records: 2,
-        layout: LEVEL_5,
-    }
+// The first touch of each swimmer, of one stripe and the next.
+const FIRST: [[Touch; 4]; 2] = [
+    [
+        *b"chip 01 12:04.31",
+        *b"chip 02 12:04.33",
+        *b"chip 03 12:04.70",
+        *b"chip 04 12:04.98",
+    ],
+    [
+        *b"chip 05 12:06.12",
+        *b"chip 06 12:06.15",
+        *b"chip 07 12:06.40",
+        *b"chip 08 12:07.02",
+    ],
+];
+
+// The touches after the card has died.
+const LATER: [Touch; 8] = [
+    *b"chip 01 12:04.31",
+    *b"chip 02 12:04.30",
+    *b"chip 03 12:04.70",
+    *b"chip 04 12:04.98",
+    *b"chip 05 12:18.77",
+    *b"chip 06 12:18.79",
+    *b"chip 07 12:06.40",
+    *b"chip 08 12:07.02",
+];
+
+// The touches after the spare is filled.
+const LAST: [Touch; 10] = [
+    *b"chip 01 12:04.31",
+    *b"chip 02 12:04.30",
+    *b"chip 03 12:04.70",
+    *b"chip 04 12:04.98",
+    *b"chip 05 12:31.54",
+    *b"chip 06 12:18.79",
+    *b"chip 07 12:06.40",
+    *b"chip 08 12:07.02",
+    *b"chip 09 12:31.58",
+    *b"chip 10 12:31.50",
+];
+
+// The race, from the opening to the last reading.
+fn race(rt: &impl Print) -> io::Result<()> {
+    let Some(mut desk) = Desk::open(rt)? else {
+        return Ok(());
+    };
+    scenes::first_lap(rt, &mut desk, &FIRST)?;
+    scenes::card_dies(rt, &mut desk, &LATER)?;
+    scenes::race_goes_on(rt, &mut desk, &LATER)?;
+    scenes::read_back(rt, &mut desk, &LATER, 4)?;
+    scenes::spare(rt, &mut desk, &LAST)?;
+    scenes::another_dies(rt, &mut desk, 5)?;
+    scenes::read_back(rt, &mut desk, &LAST, 5)
 }
 
-// Opens the array over blank cards.
-fn opened(rt: &impl Print) -> Desk {
-    let table = desk::blank(2);
-    let work = [0u8; 320];
-    let image = [0u8; 400];
-    let opening = array::open(shape(), NONE, table, &work, &image);
-    let answer = opening.answer;
-    let state = opening.state;
-    told::opened(rt, answer, state);
-    Desk {
-        state,
-        table,
-        work,
-        image,
-        place: 0,
-        same: false,
-    }
-}
-
-// The race, from the opening to the last reading, given the first touch of each swimmer, the later ones and the last.
-fn race(rt: &impl Print, first: &[u8], later: &[u8], last: &[u8]) {
-    let desk = scenes::first_lap(rt, opened(rt), first);
-    let desk = scenes::card_dies(rt, desk, later);
-    let desk = scenes::race_goes_on(rt, desk, later);
-    scenes::read_back(rt, desk, 8, 4, later);
-    let desk = scenes::spare(rt, desk, last);
-    let desk = scenes::another_dies(rt, desk, 5);
-    scenes::read_back(rt, desk, 10, 5, last);
-}
-
+// A write that fails ends the telling and not the program, which ends as it does where all is told.
 fn main(rt: HostRuntime) {
-    let touches =
-        b"chip 01 12:04.31chip 02 12:04.33chip 03 12:04.70chip 04 12:04.98chip 05 12:06.12chip 06 12:06.15chip 07 12:06.40chip 08 12:07.02\
-        chip 01 12:04.31chip 02 12:04.30chip 03 12:04.70chip 04 12:04.98chip 05 12:18.77chip 06 12:18.79chip 07 12:06.40chip 08 12:07.02\
-        chip 01 12:04.31chip 02 12:04.30chip 03 12:04.70chip 04 12:04.98chip 05 12:31.54chip 06 12:18.79chip 07 12:06.40chip 08 12:07.02\
-        chip 09 12:31.58chip 10 12:31.50";
-    race(
-        &rt,
-        touches_from(touches, 0, 8),
-        touches_from(touches, 8, 8),
-        touches_from(touches, 16, 10),
-    );
+    let _ = race(&rt);
 }

@@ -1,226 +1,196 @@
 // What the calls answered, told in words.
-use crate::script;
-use crate::script::{graph, refused, say, tell};
-use array::answers::{Admitted, Collected, Opened, Rebuilt, Stepped};
-use geometry::fill::Started;
-use geometry::report::Reported;
+use crate::touch::{Touch, text};
+use array::answers::Stepped;
 use geometry::{NONE, State};
-use graph::Action;
-use parity::Scan;
-use telling::words;
+use graph::{Action, Graph};
+use record::Record;
+use std::{fmt, io};
+use terms::Refusal;
 
-// A touch, and the block that it is for.
-pub(crate) fn touch(rt: &impl Print, what: u64, sent: &[u8], block: u64) {
-    tell(rt, what);
-    words(rt, sent);
-    say(rt, script::FOR_BLOCK, block, 0, 0, 0);
+// That a call is refused: by the paper's number, and why; or where parity disagrees.
+#[derive(Clone, Copy)]
+pub(crate) struct Refused(pub Refusal);
+
+impl fmt::Display for Refused {
+    fn fmt<W: fmt::Write>(&self, f: &mut fmt::Formatter<W>) -> fmt::Result {
+        let refusal = self.0;
+        if let Refusal::ParityDisagrees { stripe, byte } = refusal {
+            return write!(f, "parity disagrees in stripe {stripe}, byte {byte}");
+        }
+        write!(f, "refused by {} ({refusal})", refusal.number())
+    }
+}
+
+// A graph's number and its name.
+#[derive(Clone, Copy)]
+struct Numbered(u64);
+
+impl fmt::Display for Numbered {
+    fn fmt<W: fmt::Write>(&self, f: &mut fmt::Formatter<W>) -> fmt::Result {
+        let number = self.0;
+        match Graph::try_from(number) {
+            Ok(graph) => write!(f, "graph {number} ({graph})"),
+            Err(_) => Ok(()),
+        }
+    }
+}
+
+// Step k of a request on a stripe: what it does, and on which card.
+#[derive(Clone, Copy)]
+pub(crate) struct Step {
+    pub state: State,
+    pub stripe: u64,
+    pub k: u64,
+}
+
+impl Step {
+    // The card of a position.
+    fn card(&self, p: u64) -> u64 {
+        geometry::card_at(self.state.cards, self.state.layout, self.stripe, p)
+    }
+}
+
+impl fmt::Display for Step {
+    fn fmt<W: fmt::Write>(&self, f: &mut fmt::Formatter<W>) -> fmt::Result {
+        write!(f, "step {}", self.k)?;
+        let Some(n) = self.state.cards.checked_sub(1) else {
+            return Ok(());
+        };
+        match graph::step_of(n, self.k) {
+            Some(Action::Read(p)) if p == n => {
+                write!(f, ", read parity from card {}", self.card(p))
+            }
+            Some(Action::Read(p)) => write!(f, ", read unit {p} from card {}", self.card(p)),
+            Some(Action::Sum) => f.write_str(", exclusive or"),
+            Some(Action::Write(p)) if p == n => {
+                write!(f, ", write parity to card {}", self.card(p))
+            }
+            Some(Action::Write(p)) => write!(f, ", write unit {p} to card {}", self.card(p)),
+            None => Ok(()),
+        }
+    }
 }
 
 // What open answered, with the array's numbers.
-pub(crate) fn opened(rt: &impl Print, answer: Opened, state: State) {
-    tell(rt, script::OPENS);
+pub(crate) fn opened(rt: &impl Print, answer: Result<State, Refusal>) -> io::Result<()> {
+    print!(rt; "The board opens: ")?;
     match answer {
-        Opened::Open => say(
-            rt,
-            script::OPEN,
-            state.cards,
-            state.stripes,
-            state.block,
-            state.records,
+        Ok(state) => println!(rt;
+            "{} cards, {} stripes, blocks of {} bytes, {} records",
+            state.cards, state.stripes, state.block, state.records
         ),
-        Opened::Refused(number) => refused(rt, number),
-        Opened::Disagrees(stripe, byte) => say(rt, script::DISAGREES, stripe, byte, 0, 0),
+        Err(refusal) => rt.println(Refused(refusal)),
     }
 }
 
-// What admit answered of a write, with the request's stripe and graph.
-fn taken(rt: &impl Print, i: u64, stripe: u64, g: u64) {
-    say(rt, script::ADMITTED, i, stripe, 0, 0);
-    graph(rt, g);
-    tell(rt, script::END);
+// That a write was admitted as record i, with its stripe and its graph.
+pub(crate) fn taken(rt: &impl Print, i: u64, r: Record) -> io::Result<()> {
+    println!(rt;
+        "  admitted as record {i}: stripe {}, {}",
+        r.stripe,
+        Numbered(r.graph)
+    )
 }
 
-// What admit answered of a read of one block.
-fn asked(rt: &impl Print, i: u64, block: u64, g: u64) {
-    say(rt, script::ASKED, block, i, 0, 0);
-    graph(rt, g);
-}
-
-// What admit answered, with the request's stripe and graph.
-pub(crate) fn admitted(
-    rt: &impl Print,
-    answer: Admitted,
-    write: bool,
-    block: u64,
-    stripe: u64,
-    g: u64,
-) {
-    match answer {
-        Admitted::Taken(i) => {
-            if write {
-                taken(rt, i, stripe, g);
-            } else {
-                asked(rt, i, block, g);
-            }
-        }
-        Admitted::Refused(number) => {
-            tell(rt, script::INDENT);
-            refused(rt, number);
-        }
-    }
-}
-
-// A read of a position from its card, or a write to it, as the sentences of a unit and of parity say it; parity is position n.
-fn moved(rt: &impl Print, unit: u64, parity: u64, n: u64, p: u64, card: u64) {
-    if p == n {
-        say(rt, parity, card, 0, 0, 0);
-        return;
-    }
-    say(rt, unit, p, card, 0, 0);
-}
-
-// What step k of a request on a stripe does, and on which card.
-pub(crate) fn step_name(rt: &impl Print, cards: u64, layout: u64, stripe: u64, k: u64) {
-    say(rt, script::STEP, k, 0, 0, 0);
-    if cards == 0 {
-        return;
-    }
-    let n = cards - 1;
-    match graph::step_of(n, k) {
-        Some(Action::Read(p)) => moved(
-            rt,
-            script::READ_UNIT,
-            script::READ_PARITY,
-            n,
-            p,
-            geometry::card_at(cards, layout, stripe, p),
-        ),
-        Some(Action::Sum) => tell(rt, script::SUM),
-        Some(Action::Write(p)) => moved(
-            rt,
-            script::WRITE_UNIT,
-            script::WRITE_PARITY,
-            n,
-            p,
-            geometry::card_at(cards, layout, stripe, p),
-        ),
-        None => {}
-    }
+// That a read of a block was admitted as record i, with its graph.
+pub(crate) fn asked(rt: &impl Print, block: u64, i: u64, r: Record) -> io::Result<()> {
+    print!(rt; "  block {block}: record {i}, {}", Numbered(r.graph))
 }
 
 // What step answered.
-pub(crate) fn stepped(rt: &impl Print, answer: Stepped) {
+pub(crate) fn stepped(
+    rt: &impl Print,
+    step: Step,
+    answer: Result<Stepped, Refusal>,
+) -> io::Result<()> {
+    print!(rt; "  {step}: ")?;
     match answer {
-        Stepped::Done => tell(rt, script::DONE),
-        Stepped::Chosen(g) => {
-            tell(rt, script::AFRESH);
-            graph(rt, g);
-            tell(rt, script::END);
+        Ok(Stepped::Done) => rt.println("done"),
+        Ok(Stepped::Chosen(g)) => {
+            println!(rt; "that card is out, chosen afresh: {}", Numbered(g))
         }
-        Stepped::Refused(number) => {
-            tell(rt, script::COLON);
-            refused(rt, number);
-        }
+        Err(refusal) => rt.println(Refused(refusal)),
     }
 }
 
-// What report answered.
-pub(crate) fn reported(rt: &impl Print, answer: Reported) {
+// What a report or a start answered.
+pub(crate) fn accepted(rt: &impl Print, what: &str, answer: Result<(), Refusal>) -> io::Result<()> {
     match answer {
-        Reported::Marked => tell(rt, script::ACCEPTED),
-        Reported::Refused(number) => refused(rt, number),
-    }
-}
-
-// What start answered.
-pub(crate) fn started(rt: &impl Print, answer: Started) {
-    match answer {
-        Started::Begun => tell(rt, script::ACCEPTED),
-        Started::Refused(number) => refused(rt, number),
+        Ok(()) => println!(rt; "  {what}: accepted"),
+        Err(refusal) => println!(rt; "  {what}: {}", Refused(refusal)),
     }
 }
 
 // What a rebuild step answered, with the card that is out after it.
-pub(crate) fn rebuilt(rt: &impl Print, answer: Rebuilt, out: u64) {
-    tell(rt, script::REBUILD);
+pub(crate) fn rebuilt(rt: &impl Print, answer: Result<u64, Refusal>, out: u64) -> io::Result<()> {
     match answer {
-        Rebuilt::Filled(stripe) => say(rt, script::FILLED, stripe, 0, 0, 0),
-        Rebuilt::Refused(number) => refused(rt, number),
+        Ok(stripe) => println!(rt; "Rebuild: stripe {stripe} is filled")?,
+        Err(refusal) => println!(rt; "Rebuild: {}", Refused(refusal))?,
     }
     if out == NONE {
-        tell(rt, script::WHOLE);
+        rt.println("  no card is out")?;
     }
+    Ok(())
 }
 
 // What collect answered of a write.
-fn collected(rt: &impl Print, answer: Collected) {
-    tell(rt, script::INDENT);
+pub(crate) fn collected(rt: &impl Print, answer: Result<u64, Refusal>) -> io::Result<()> {
     match answer {
-        Collected::Steps(steps) => say(rt, script::COLLECTED, steps, 0, 0, 0),
-        Collected::Refused(number) => refused(rt, number),
+        Ok(steps) => println!(rt; "  collected, steps: {steps}"),
+        Err(refusal) => println!(rt; "  {}", Refused(refusal)),
     }
 }
 
 // What collect answered of a read, what came back, and whether it is what was sent.
-fn heard(rt: &impl Print, answer: Collected, block: &[u8], same: bool) {
+pub(crate) fn given(
+    rt: &impl Print,
+    answer: Result<u64, Refusal>,
+    held: &Touch,
+    sent: &Touch,
+) -> io::Result<()> {
     match answer {
-        Collected::Steps(steps) => {
-            say(rt, script::GIVES, steps, 0, 0, 0);
-            words(rt, block);
-            compared(rt, same);
+        Ok(steps) => {
+            print!(rt; ", steps: {steps}, gives ")?;
+            compared(rt, held, sent)
         }
-        Collected::Refused(number) => refused(rt, number),
+        Err(refusal) => rt.println(Refused(refusal)),
     }
 }
 
-// What collect answered, and whether what came back is what was sent; nothing is sent where the request was a write.
-pub(crate) fn given(rt: &impl Print, answer: Collected, block: &[u8], sent: &[u8]) -> bool {
-    if sent.len() == 0 {
-        collected(rt, answer);
-        return false;
-    }
-    let same = block == sent;
-    heard(rt, answer, block, same);
-    same
+// A touch as it is held, and whether it is what was sent.
+pub(crate) fn compared(rt: &impl Print, held: &Touch, sent: &Touch) -> io::Result<()> {
+    let how = if held == sent {
+        "as sent"
+    } else {
+        "NOT AS SENT"
+    };
+    println!(rt; "{}, {how}", text(held))
 }
 
 // What a scan answered.
-pub(crate) fn scanned(rt: &impl Print, answer: Scan) {
-    tell(rt, script::SCAN);
+pub(crate) fn scanned(rt: &impl Print, answer: Result<(), Refusal>) -> io::Result<()> {
     match answer {
-        Scan::Right => tell(rt, script::RIGHT),
-        Scan::Disagrees { stripe, byte } => say(rt, script::DISAGREES, stripe, byte, 0, 0),
-        Scan::Refused(number) => refused(rt, number),
+        Ok(()) => rt.println("The scan: parity is right"),
+        Err(refusal) => println!(rt; "The scan: {}", Refused(refusal)),
     }
 }
 
 // Whether a refused call left the table and the work store as they were.
-pub(crate) fn kept(rt: &impl Print, table: bool, work: bool) {
-    if !table {
-        tell(rt, script::TABLE_ALTERED);
-        return;
-    }
-    if !work {
-        tell(rt, script::WORK_ALTERED);
-        return;
-    }
-    tell(rt, script::KEPT);
+pub(crate) fn kept(rt: &impl Print, table: bool, work: bool) -> io::Result<()> {
+    rt.println(if !table {
+        "  THE TABLE IS ALTERED"
+    } else if !work {
+        "  THE WORK STORE IS ALTERED"
+    } else {
+        "  the table is as it was, so is the work store"
+    })
 }
 
 // How many touches came back as they were sent.
-pub(crate) fn came_back(rt: &impl Print, same: u64, all: u64) {
-    if same == all {
-        say(rt, script::CAME_BACK, same, all, 0, 0);
-        return;
+pub(crate) fn came_back(rt: &impl Print, same: u64, all: usize) -> io::Result<()> {
+    if same == all as u64 {
+        println!(rt; "Every touch came back: {same} of {all}")
+    } else {
+        println!(rt; "TOUCHES ARE LOST: {same} of {all}")
     }
-    say(rt, script::LOST, same, all, 0, 0);
-}
-
-// Whether what was read is what was sent.
-pub(crate) fn compared(rt: &impl Print, same: bool) {
-    if same {
-        tell(rt, script::AS_SENT);
-        return;
-    }
-    tell(rt, script::NOT_AS_SENT);
 }

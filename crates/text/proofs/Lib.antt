@@ -3,5 +3,5 @@ pub mod Decimal
 pub mod Asks
 pub mod Parsing
 pub mod Lines
-pub mod Reading
 pub mod Put
+pub mod Reading

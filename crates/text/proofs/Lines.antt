@@ -12,7 +12,10 @@ use lib.ListN.{length, set, length-append, length-set}
 use lib.Seq.{append_snoc}
 use borrow.Author.Tests.{eqb-true, eqb-false, lt-ltb, le-ltb, le-leb, lt-leb, ltb-false, leb-false}
 use Rattle.terms.specs.Lists.{put}
-use Rattle.terms.specs.Reply.{Reply, accepted}
+use Rattle.std.specs.Prelude.{Result, Ok, Err}
+use Rattle.terms.specs.Reply.{Reply, accepted, number_of}
+use Rattle.terms.specs.declared.refusal.Refusal.{Refusal}
+use Rattle.terms.proofs.Answers.{number_not_0}
 use Rattle.terms.proofs.Lists.{length_put}
 use Rattle.terms.proofs.Rows.{truth, or_false_left, or_false_right}
 use Rattle.geometry.specs.Answers.{beyond_places, block_at_reply, held_reply}
@@ -23,24 +26,26 @@ use Rattle.geometry.proofs.Answered.{places_bounds, blocks_few, block_at_parity,
 use Rattle.geometry.proofs.Placing.{placed}
 use Rattle.text.specs.Decimal.{decimal}
 use Rattle.text.specs.Input.{space, newline}
-use Rattle.text.specs.Line.{letter_p, shown, held_text, cards_text, line_text, line_room, written}
+use Rattle.text.specs.Line.{letter_p, shown, held_text, answer_text, cards_text, line_text, line_room, written}
 use Rattle.text.proofs.Decimal.{decimal_length}
 use Rattle.text.proofs.Put.{put_behind, put_next, put_nothing}
 
--- an answer with these values shows this
-shown_parity : (h : Held) → held_reply h ≡ accepted 1 0 → held_text h ≡ letter_p ∷ []
-unfolding held_reply held_text
-shown_parity (held.Block L) e = absurd (omega (arith, ap (λ (r : Reply). r.first) e))
-shown_parity held.Parity e = refl
-shown_parity held.Beyond e = absurd (omega (arith, ap (λ (r : Reply). r.number) e))
-shown_parity held.OutOfRange e = absurd (omega (arith, ap (λ (r : Reply). r.number) e))
+-- a refusal is not accepted
+not_accepted : (r : Refusal) → number_of r ≡ 0 → ⊥
+not_accepted r e = eqb-false (number_of r) 0 (number_not_0 r) e
 
-shown_block : (h : Held) (L : ℕ) → held_reply h ≡ accepted 0 L → held_text h ≡ decimal L
-unfolding held_reply held_text
-shown_block (held.Block M) L e = ap (λ (r : Reply). decimal r.second) e
-shown_block held.Parity L e = absurd (omega (arith, ap (λ (r : Reply). r.first) e))
-shown_block held.Beyond L e = absurd (omega (arith, ap (λ (r : Reply). r.number) e))
-shown_block held.OutOfRange L e = absurd (omega (arith, ap (λ (r : Reply). r.number) e))
+-- an answer with these values shows this
+shown_parity : (h : Result Held Refusal) → held_reply h ≡ accepted 1 0 → answer_text h ≡ letter_p ∷ []
+unfolding answer_text held_text
+shown_parity (Ok (held.Block L)) e = absurd (omega (arith, ap (λ (r : Reply). r.first) e))
+shown_parity (Ok held.Parity) e = refl
+shown_parity (Err r) e = absurd (not_accepted r (ap (λ (r : Reply). r.number) e))
+
+shown_block : (h : Result Held Refusal) (L : ℕ) → held_reply h ≡ accepted 0 L → answer_text h ≡ decimal L
+unfolding answer_text held_text
+shown_block (Ok (held.Block M)) L e = ap (λ (r : Reply). decimal r.second) e
+shown_block (Ok held.Parity) L e = absurd (omega (arith, ap (λ (r : Reply). r.first) e))
+shown_block (Err r) L e = absurd (not_accepted r (ap (λ (r : Reply). r.number) e))
 
 -- where writing stands once k cards are put into l from a place on: the place behind them, and the list
 pub record Upto (N s at : ℕ) (l : List ℕ) (k end : ℕ) (out : List ℕ) : Type 0 where
@@ -54,14 +59,14 @@ upto_none N s at l = record { few = omega arith; place = omega arith; text = sym
 
 module _ (N S s : ℕ) (legal : beyond_places N S 5 ≡ false) (below : s < S) where
   -- what placement answers of a card is what the card shows
-  pub held_shown : (c : ℕ) → c < N → (h : Held) → held_reply h ≡ block_at_reply N S 5 c s → held_text h ≡ shown N s c
+  pub held_shown : (c : ℕ) → c < N → (h : Result Held Refusal) → held_reply h ≡ block_at_reply N S 5 c s → answer_text h ≡ shown N s c
   unfolding shown
   held_shown c less h e = ⊎_elim parity block (truth (eqb (position_of N 5 s c) (N - 1)))
     where
-      parity : eqb (position_of N 5 s c) (N - 1) ≡ true → held_text h ≡ shown N s c
+      parity : eqb (position_of N 5 s c) (N - 1) ≡ true → answer_text h ≡ shown N s c
       parity t = rw t (shown_parity h (e ∙ block_at_parity N S 5 c s legal less below (eqb-true _ _ t)))
 
-      block : eqb (position_of N 5 s c) (N - 1) ≡ false → held_text h ≡ shown N s c
+      block : eqb (position_of N 5 s c) (N - 1) ≡ false → answer_text h ≡ shown N s c
       block t = rw t (shown_block h _ (e ∙ block_at_found N S 5 c s legal less below (eqb-false _ _ t)))
 
   -- which is P or at most four digits
@@ -75,7 +80,7 @@ module _ (N S s : ℕ) (legal : beyond_places N S 5 ≡ false) (below : s < S) w
       block : eqb (position_of N 5 s c) (N - 1) ≡ false → length (shown N s c) ≤ 4
       block t =
           let b = places_bounds N S 5 legal in
-          rw t (decimal_length (block_of N s (position_of N 5 s c)) 3 (omega (arith, (placed N 5 (omega arith)).position_below s c less, blocks_few N S 5 legal s (omega arith))))
+          rw t (decimal_length (block_of N s (position_of N 5 s c)) (omega (arith, (placed N 5 (omega arith)).position_below s c less, blocks_few N S 5 legal s (omega arith))))
 
   -- k cards take at most five bytes each
   pub cards_size : (k : ℕ) → k ≤ N → length (cards_text N s k) ≤ 5 * k
@@ -93,12 +98,12 @@ module _ (N S s : ℕ) (legal : beyond_places N S 5 ≡ false) (below : s < S) w
     upto_room less = omega (arith, u.place, cards_size k u.few, upto_length)
 
     -- the card's text, as placement answers it, fits behind a space
-    pub upto_fits : k < N → (h : Held) → held_reply h ≡ block_at_reply N S 5 k s → end + 1 + length (held_text h) ≤ length (set out end space)
+    pub upto_fits : k < N → (h : Result Held Refusal) → held_reply h ≡ block_at_reply N S 5 k s → end + 1 + length (answer_text h) ≤ length (set out end space)
     upto_fits less h e = simp length-set (omega (arith, upto_room less, ap length (held_shown k less h e), shown_size k less))
 
     -- and is put there
-    pub upto_next : k < N → (h : Held) {r : ℕ} {out' : List ℕ} → held_reply h ≡ block_at_reply N S 5 k s → r ≡ end + 1 + length (held_text h)
-        → out' ≡ put (end + 1) (held_text h) (set out end space) → Upto N s at l (k + 1) r out'
+    pub upto_next : k < N → (h : Result Held Refusal) {r : ℕ} {out' : List ℕ} → held_reply h ≡ block_at_reply N S 5 k s → r ≡ end + 1 + length (answer_text h)
+        → out' ≡ put (end + 1) (answer_text h) (set out end space) → Upto N s at l (k + 1) r out'
     unfolding cards_text
     upto_next less h e p q =
         let before = cards_text N s k in
@@ -123,7 +128,7 @@ module _ (N S s : ℕ) (legal : beyond_places N S 5 ≡ false) (below : s < S) w
 
   -- the stripe has at most four digits
   pub stripe_size : length (decimal s) ≤ 4
-  stripe_size = let b = places_bounds N S 5 legal in decimal_length s 3 (omega arith)
+  stripe_size = let b = places_bounds N S 5 legal in decimal_length s (omega arith)
 
   -- the stripe and the cards leave room for the newline
   pub line_short : length (decimal s) + length (cards_text N s N) < line_room

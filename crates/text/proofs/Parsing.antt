@@ -4,6 +4,8 @@ use Prim.Native.Nat.{ℕ, suc, ◌+◌, ◌-◌, ◌≤◌, ◌<◌}
 use mathlib.Core.Path.{◌≡◌, refl, sym, ap, ◌∙◌}
 use mathlib.Core.Bool.{true, false}
 use mathlib.Core.List.{List, [], ◌∷◌, ◌++◌}
+use Rattle.std.specs.Prelude.{Option, Some, None}
+use Rattle.std.proofs.lemmas.Option.{none-some, same_Some}
 use native.Mathlib.Omega.{arith}
 use lib.ListN.{length, get_or, take, drop, length-append}
 use lib.Seq.{take_at, get_or_at, take-suc, take-length}
@@ -11,8 +13,7 @@ use Rattle.terms.proofs.Rows.{true≢false}
 use Rattle.geometry.specs.Answers.{beyond_places}
 use Rattle.geometry.proofs.Answered.{places_bounds}
 use Rattle.text.specs.Decimal.{digit, decimal, Reads}
-use Rattle.text.specs.Input.{space, newline, input_text, asks_for, asked}
-use Rattle.text.specs.declared.input.Asked.TheVariants.{Shape, Bad}
+use Rattle.text.specs.Input.{space, newline, input_text, asks_for, shape, asked}
 use Rattle.text.proofs.Decimal.{decimal_small, decimal_length_pos, decimal_length}
 use Rattle.text.proofs.Asks.{input_bytes, asks_true, asks_text, asked_none, asked_shape}
 
@@ -57,8 +58,8 @@ module _ (l : List ℕ) where
       let before : length l - 1 ≡ length (digit N ∷ space ∷ decimal S) = omega arith in
       let inner : length l - 1 - 2 ≡ length (decimal S) = omega arith in
       record {
-        size = omega (arith, decimal_length_pos S);
-        most = omega (arith, decimal_length S 3 (omega arith));
+        size = omega (arith, decimal_length_pos S (omega arith));
+        most = omega (arith, decimal_length S (omega arith));
         first = ap (take 1) bytes ∙ sym (decimal_small N (omega arith));
         second = ap (λ (x : List ℕ). get_or x 1 0) bytes;
         between = rw (inner, bytes) (take_at (decimal S) (newline ∷ []) (length (decimal S)) refl);
@@ -67,34 +68,45 @@ module _ (l : List ℕ) where
       }
 
   -- no input that asks for a shape has more than seven bytes
-  pub bad_long : 7 < length l → asked l ≡ Bad
+  pub bad_long : 7 < length l → asked l ≡ None
   bad_long h = asked_none l λ N S a. let k = known N S a in omega arith
 
-  pub bad_short : length l < 4 → asked l ≡ Bad
+  pub bad_short : length l < 4 → asked l ≡ None
   bad_short h = asked_none l λ N S a. let k = known N S a in omega arith
 
-  pub bad_space : ¬ (get_or l 1 0 ≡ space) → asked l ≡ Bad
+  pub bad_space : ¬ (get_or l 1 0 ≡ space) → asked l ≡ None
   bad_space h = asked_none l λ N S a. h (known N S a).second
 
-  pub bad_end : ¬ (get_or l (length l - 1) 0 ≡ newline) → asked l ≡ Bad
+  pub bad_end : ¬ (get_or l (length l - 1) 0 ≡ newline) → asked l ≡ None
   bad_end h = asked_none l λ N S a. h (known N S a).last
 
-  pub bad_limits : (N S : ℕ) → Reads (take 1 l) N → Reads middle S → beyond_places N S 5 ≡ true → asked l ≡ Bad
-  bad_limits N S n s h = asked_none l go
+  -- what is read of the two parts where it asks for a shape
+  cards_read : {a : Option ℕ} → Reads (take 1 l) a → (N S : ℕ) → asks_for l N S ≡ true → a ≡ Some N
+  cards_read n N S h = let k = known N S h in let b = places_bounds N S 5 k.legal in n.only N (omega arith) (omega arith) k.first
+
+  stripes_read : {a : Option ℕ} → Reads middle a → (N S : ℕ) → asks_for l N S ≡ true → a ≡ Some S
+  stripes_read s N S h = let k = known N S h in let b = places_bounds N S 5 k.legal in s.only S (omega arith) (omega arith) k.between
+
+  pub bad_cards : {a : Option ℕ} → Reads (take 1 l) a → a ≡ None → asked l ≡ None
+  bad_cards n e = asked_none l λ N S h. none-some _ (sym e ∙ cards_read n N S h)
+
+  pub bad_stripes : {a : Option ℕ} → Reads middle a → a ≡ None → asked l ≡ None
+  bad_stripes s e = asked_none l λ N S h. none-some _ (sym e ∙ stripes_read s N S h)
+
+  pub bad_limits : (N S : ℕ) {a b : Option ℕ} → Reads (take 1 l) a → Reads middle b → a ≡ Some N → b ≡ Some S → beyond_places N S 5 ≡ true → asked l ≡ None
+  bad_limits N S n s e f h = asked_none l go
     where
       go : (M R : ℕ) → asks_for l M R ≡ true → ⊥
       go M R a =
           let k = known M R a in
-          let b = places_bounds M R 5 k.legal in
-          let e = n.only M (omega arith) (omega arith) k.first in
-          let f = s.only R (omega arith) (omega arith) k.between in
+          let p : N ≡ M = same_Some _ _ (sym e ∙ cards_read n M R a) in
+          let q : S ≡ R = same_Some _ _ (sym f ∙ stripes_read s M R a) in
           true≢false (sym h ∙ (cc k.legal))
 
-  pub good : (N S : ℕ) → 4 ≤ length l → get_or l 1 0 ≡ space → get_or l (length l - 1) 0 ≡ newline → Reads (take 1 l) N → Reads middle S
-      → beyond_places N S 5 ≡ false → asked l ≡ Shape N S
+  pub good : (N S : ℕ) {a b : Option ℕ} → 4 ≤ length l → get_or l 1 0 ≡ space → get_or l (length l - 1) 0 ≡ newline → Reads (take 1 l) a → Reads middle b
+      → a ≡ Some N → b ≡ Some S → beyond_places N S 5 ≡ false → asked l ≡ Some (shape N S)
   unfolding input_text
-  good N S h sp nl n s legal =
-      let b = places_bounds N S 5 legal in
-      let first : take 1 l ≡ decimal N = n.text (omega arith) in
-      let between : middle ≡ decimal S = s.text (omega arith) in
+  good N S h sp nl n s e f legal =
+      let first : take 1 l ≡ decimal N = n.text N e in
+      let between : middle ≡ decimal S = s.text S f in
       asked_shape l N S (asks_text l N S legal (split_ends l space newline h sp nl ∙ cc))

@@ -1,6 +1,6 @@
 -- Writing a text from a place on, a piece behind a piece: what is put behind a piece is put with it.
 -- Assumes nothing.
-use Prim.Native.Nat.{ℕ, ◌+◌, ◌/◌, ◌%◌, ◌≤◌, ◌<◌}
+use Prim.Native.Nat.{ℕ, ◌+◌, ◌≤◌, ◌<◌}
 use mathlib.Core.Path.{◌≡◌, sym, ap, ◌∙◌}
 use mathlib.Core.List.{List, [], ◌∷◌, ◌++◌, append_assoc}
 use native.Mathlib.Numerals.{add-one}
@@ -10,8 +10,7 @@ use lib.ListN.{length, set, take, drop, length-append, take-append-drop}
 use lib.Seq.{length-take-le, set_split, take_at, drop-append-add, drop-drop}
 use Rattle.terms.specs.Lists.{put}
 use Rattle.terms.proofs.Lists.{length_put}
-use Rattle.text.specs.Decimal.{digit, decimal}
-use Rattle.text.proofs.Decimal.{decimal_small, decimal_large, size_large}
+use borrow.Rule.Slice.PartMut.{put_mid}
 
 -- nothing
 pub put_nothing : (l : List ℕ) (at : ℕ) → put at [] l ≡ l
@@ -45,10 +44,11 @@ module _ (l : List ℕ) where
   pub put_next : (at : ℕ) (a : List ℕ) (x : ℕ) → at + length a < length l → set (put at a l) (at + length a) x ≡ put at (a ++ (x ∷ [])) l
   put_next at a x h = put_byte (put at a l) (at + length a) x (rw (length_put at a l (omega arith)) h) ∙ put_behind at a (x ∷ []) (omega arith)
 
-  -- a number's text is put digit by digit: the text of its tenth, and its last digit behind it
-  pub put_small : (at n : ℕ) → n < 10 → at < length l → set l at (digit n) ≡ put at (decimal n) l
-  put_small at n h g = rw (decimal_small n h) (put_byte l at (digit n) g)
+-- the list with a text written over a part of it
+pub put_part : (l : List ℕ) (at k : ℕ) (b t : List ℕ) → b ≡ t → k ≡ length t → put_mid at k l b ≡ put at t l
+unfolding put
+put_part l at k b t e f = rw (e, f) (ap (λ (rest : List ℕ). take at l ++ (t ++ rest)) (drop-drop (length t) at l))
 
-  pub put_large : (at n : ℕ) → 10 ≤ n → at + length (decimal n) ≤ length l
-      → set (put at (decimal (n / 10)) l) (at + length (decimal (n / 10))) (digit (n % 10)) ≡ put at (decimal n) l
-  put_large at n h g = rw (decimal_large n h) (put_next at (decimal (n / 10)) (digit (n % 10)) (omega (arith, size_large n h)))
+-- what was put of a text was put of one that is the same
+pub put_same : (l : List ℕ) (at : ℕ) {r : ℕ} {l' : List ℕ} (t u : List ℕ) → t ≡ u → r ≡ at + length u → l' ≡ put at u l → (r ≡ at + length t) × (l' ≡ put at t l)
+put_same l at t u e r p = (r ∙ ap (λ (x : List ℕ). at + length x) (sym e), p ∙ ap (λ (x : List ℕ). put at x l) (sym e))

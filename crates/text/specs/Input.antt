@@ -1,12 +1,11 @@
 -- Document 01, "Checked examples": the layout program reads N, one space, S and a newline, both decimal without leading zeros, and
 -- nothing after. Input of any other kind, or beyond the limits, is bad.
 -- Assumes nothing.
-use Rattle.std.specs.Prelude.{ℕ, Bool, cond, not, ◌&&◌, List, [], ◌∷◌, ◌++◌, ltb}
+use Rattle.std.specs.Prelude.{ℕ, Bool, Option, None, Some, cond, not, ◌&&◌, List, [], ◌∷◌, ◌++◌, ltb}
 use Rattle.terms.specs.Sets.{lowest}
 use Rattle.geometry.specs.Answers.{beyond_places}
 use Rattle.text.specs.Decimal.{decimal, same}
-use Rattle.text.specs.declared.input.Asked.{Asked}
-use Rattle.text.specs.declared.input.Asked.TheVariants.{Shape, Bad}
+use Rattle.text.specs.declared.input.Shape.{Shape}
 
 -- the codes of a space and of a newline
 abbrev pub space : ℕ
@@ -31,6 +30,10 @@ stripes_in l N = lowest 1025 (λ S. asks_for l N S)
 unfoldable pub cards_in : List ℕ → ℕ
 cards_in l = lowest 9 (λ N. ltb (stripes_in l N) 1025)
 
--- what an input asks for. At most one N and one S have it as their text (proofs/Asks.antt)
-unfoldable pub asked : List ℕ → Asked
-asked l = cond (ltb (cards_in l) 9) (Shape (cards_in l) (stripes_in l (cards_in l))) Bad
+-- the shape of N cards and S stripes
+abbrev pub shape : ℕ → ℕ → Shape
+shape N S = record { cards = N; stripes = S }
+
+-- what an input asks for, if anything. At most one N and one S have it as their text (proofs/Asks.antt)
+unfoldable pub asked : List ℕ → Option Shape
+asked l = cond (ltb (cards_in l) 9) (Some (shape (cards_in l) (stripes_in l (cards_in l)))) None

@@ -1,7 +1,8 @@
 -- Document 01, "Checked examples": one line for each stripe: the stripe, then for cards 0 to N-1 the block number, or P, with single
 -- spaces between.
 -- Assumes nothing.
-use Rattle.std.specs.Prelude.{ℕ, zero, suc, ◌-◌, cond, ◌||◌, List, [], ◌∷◌, ◌++◌, ltb, leb, eqb}
+use Rattle.std.specs.Prelude.{ℕ, zero, suc, ◌-◌, cond, ◌||◌, List, [], ◌∷◌, ◌++◌, ltb, leb, eqb, Result, Ok, Err}
+use Rattle.terms.specs.declared.refusal.Refusal.{Refusal}
 use Rattle.geometry.specs.Answers.{beyond_places}
 use Rattle.geometry.specs.Placement.{position_of, block_of}
 use Rattle.geometry.specs.declared.Held.{Held}
@@ -18,12 +19,15 @@ unfoldable pub shown : ℕ → ℕ → ℕ → List ℕ
 shown N s c =
     cond (eqb (position_of N 5 s c) (N - 1)) (letter_p ∷ []) (decimal (block_of N s (position_of N 5 s c)))
 
--- the text of an answer about what a card holds, nothing where it was refused
+-- the text of what a card holds
 unfoldable pub held_text : Held → List ℕ
 held_text (held.Block L) = decimal L
 held_text held.Parity = letter_p ∷ []
-held_text held.Beyond = []
-held_text held.OutOfRange = []
+
+-- the text of an answer about what a card holds, nothing where it was refused
+unfoldable pub answer_text : Result Held Refusal → List ℕ
+answer_text (Ok h) = held_text h
+answer_text (Err refusal) = []
 
 -- cards 0 to k-1 of stripe s, each after a space
 unfoldable pub cards_text : ℕ → ℕ → ℕ → List ℕ

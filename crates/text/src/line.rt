@@ -2,11 +2,12 @@
 ghost use Rattle.std.specs.Prelude.{◌≡◌, false, ◌+◌, ◌*◌, ◌≤◌, ◌<◌, length};
 ghost use Rattle.terms.specs.Lists.{put};
 ghost use Rattle.geometry.specs.Answers.{beyond_places};
-ghost use Rattle.text.specs.Line.{held_text, cards_text, written};
+ghost use Rattle.text.specs.Line.{held_text, answer_text, cards_text, written};
 
 use crate::number::put_number;
 use crate::{beyond, held_at};
 use geometry::Held;
+use terms::Refusal;
 
 // A room that every line fits in: four bytes for the stripe, five for each card, one for the newline.
 const ROOM: usize = 45;
@@ -23,8 +24,18 @@ fn put_held(held: Held, out: &mut [u8], at: usize) -> usize
             out[at] = b'P';
             at + 1
         }
-        Held::Beyond => at,
-        Held::OutOfRange => at,
+    }
+}
+
+// Puts what a card is said to hold, and nothing of a refusal.
+fn put_answer(answer: Result<Held, Refusal>, out: &mut [u8], at: usize) -> usize
+    requires { at + length (answer_text answer) ≤ length out.old }
+    ensures value { result ≡ at + length (answer_text answer) }
+    ensures out_after { out.new ≡ put at (answer_text answer) out.old }
+{
+    match answer {
+        Ok(held) => put_held(held, out, at),
+        Err(_) => at,
     }
 }
 
@@ -37,17 +48,16 @@ fn put_cards(cards: u64, stripes: u64, stripe: u64, out: &mut [u8], at: usize) -
     ensures out_after { out.new ≡ put at (cards_text cards stripe cards) out.old }
 {
     let mut end = at;
-    let mut card = 0;
-    while card < cards {
+    for card in 0..cards {
         out[end] = b' ';
-        end = put_held(held_at(cards, stripes, card, stripe), out, end + 1);
-        card += 1;
+        end = put_answer(held_at(cards, stripes, card, stripe), out, end + 1);
     }
     end
 }
 
 // Puts the line of a stripe at the front of out, and answers its length. Where there is no such line, or out has no room for every
 // line, it answers 0 and leaves out as it was.
+// (An Option would say that twice: what is written there, `written`, is empty.)
 pub fn write_line(cards: u64, stripes: u64, stripe: u64, out: &mut [u8]) -> usize
     ensures value { result ≡ length (written cards stripes stripe (length out.old)) }
     ensures out_after { out.new ≡ put 0 (written cards stripes stripe (length out.old)) out.old }

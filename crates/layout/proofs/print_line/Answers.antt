@@ -10,11 +10,11 @@ pub slice_bounds-line-end : goal.slice_bounds-line-end
 slice_bounds-line-end g c =
     let call = c.write_line-n in
     let a = c.args in
-    omega (arith, call.ensures.value, call.auto.out, written_fits a.cards a.stripes a.stripe 45)
+    omega (arith, call.ensures.value, call.auto.out, written_fits a.shape.cards a.shape.stripes a.stripe 45)
 
 pub slice_bounds-write_all-end : goal.slice_bounds-write_all-end
 slice_bounds-write_all-end g c =
     let call = c.write_line-n in
     let a = c.args in
-    let within : call.result ≤ length call.new.out = omega (arith, call.ensures.value, call.auto.out, written_fits a.cards a.stripes a.stripe 45) in
+    let within : call.result ≤ length call.new.out = omega (arith, call.ensures.value, call.auto.out, written_fits a.shape.cards a.shape.stripes a.stripe 45) in
     sym (length-take-le _ _ within)

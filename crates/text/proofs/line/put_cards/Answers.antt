@@ -20,13 +20,13 @@ overflow_add-end c =
       upto_room _ _ _ c.requires.stripes_value c.requires.stripe_lt_stripes _ _ c.requires.cards_in_bounds inv c.loop-card-test.true,
     )
 
-pub put_held-end-requires : goal.put_held-end-requires
-put_held-end-requires c =
+pub put_answer-end-requires : goal.put_answer-end-requires
+put_answer-end-requires c =
     upto_fits _ _ _ c.requires.stripes_value c.requires.stripe_lt_stripes _ _ c.requires.cards_in_bounds c.loop-card.invariant c.loop-card-test.true _ c.held_at.ensures
 
 pub loop-card-preserved : goal.loop-card-preserved
 loop-card-preserved c =
-    let call = c.put_held-end in
+    let call = c.put_answer-end in
     upto_next _ _ _ c.requires.stripes_value c.requires.stripe_lt_stripes _ _ c.requires.cards_in_bounds c.loop-card.invariant c.loop-card-test.true _ c.held_at.ensures call.ensures.value call.ensures.out_after
 
 pub shape_of-out : goal.shape_of-out

@@ -1,11 +1,7 @@
 -- `text::line::put_cards` meets its contract. The loop's invariant is where writing stands after so many cards.
 -- Assumes nothing.
-use Prim.Native.Nat.{◌-◌}
 use Rattle.text.proofs.Lines.{Upto}
 use Rattle.text.proofs.line.put_cards.Given as goal
 
 abbrev pub invariant-loop-card : goal.invariant-loop-card
 invariant-loop-card l = Upto l.cards l.stripe l.at l.initial.out l.card l.end l.out
-
-abbrev pub decreases-loop-card : goal.decreases-loop-card
-decreases-loop-card l = l.cards - l.card

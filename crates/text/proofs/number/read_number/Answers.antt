@@ -1,54 +1,44 @@
--- `text::number::read_number` meets its contract. The loop's invariant: the bytes passed are the text of the value. Each byte that stops
--- the reading shows that the text is of no number.
+-- `text::number::read_number` meets its contract: each test that fails shows that the text is of no number.
 -- Assumes nothing.
-use native.Mathlib.Omega.{arith}
-use Rattle.text.proofs.Reading.{none_empty, none_long, none_zero, none_byte, passed_first, passed_next, passed_small, passed_all}
+use Rattle.std.proofs.Common.{sym, ◌∙◌, arith}
+use Rattle.std.proofs.lemmas.Bool.Decides.{Decides-eqb}
+use Rattle.std.proofs.lemmas.Slice.Eq.{slice_eq-Decides}
+use Rattle.terms.proofs.Rows.{true≢false}
+use Rattle.text.proofs.Reading.{no_text, same_text, unread, other_read, is_read}
+use Rattle.text.proofs.Decimal.{printed}
 use Rattle.text.proofs.number.read_number.Goals as goal
 
+pub returns-in_err-ok : goal.returns-in_err-ok
+returns-in_err-ok c = no_text _ _ _ c.from_utf8.ensures.cases c.ok.ensures.value c.in_err-ok.was c.from_residual.ensures
+
+pub returns-in_err-n : goal.returns-in_err-n
+returns-in_err-n c =
+    let whole = same_text _ _ _ c.from_utf8.ensures.cases c.ok.ensures.value c.in_ok-ok.was in
+    unread _ _ c.parse.ensures.value.0 whole c.ok-2.ensures.value c.in_err-n.was c.from_residual-in_err-n.ensures
+
 pub returns-then-n-eq0 : goal.returns-then-n-eq0
-returns-then-n-eq0 c = none_empty _ (omega arith)
+returns-then-n-eq0 c =
+    let whole = same_text _ _ _ c.from_utf8.ensures.cases c.ok.ensures.value c.in_ok-ok.was in
+    other_read _ _ c.parse.ensures.value.0 whole c.ok-2.ensures.value _ c.in_ok-n.was (λ h k t. omega arith)
 
-pub returns-then-n-gt4 : goal.returns-then-n-gt4
-returns-then-n-gt4 c = none_long _ (omega arith)
+pub returns-then-n-gt9999 : goal.returns-then-n-gt9999
+returns-then-n-gt9999 c =
+    let whole = same_text _ _ _ c.from_utf8.ensures.cases c.ok.ensures.value c.in_ok-ok.was in
+    other_read _ _ c.parse.ensures.value.0 whole c.ok-2.ensures.value _ c.in_ok-n.was (λ h k t. omega arith)
 
-pub bounds-text-0 : goal.bounds-text-0
-bounds-text-0 c = omega arith
-
-pub digit_of-value-requires : goal.digit_of-value-requires
-digit_of-value-requires c = tt
-
-pub returns-then-value-eq0 : goal.returns-then-value-eq0
-returns-then-value-eq0 c = none_zero _ c.digit_of-value.ensures c.if-value-eq0.true
-
-pub returns-then-value-gt9 : goal.returns-then-value-gt9
-returns-then-value-gt9 c = none_byte _ 0 c.digit_of-value.ensures (omega arith) c.if-value-gt9.true
-
-pub loop-i-init : goal.loop-i-init
-loop-i-init c = passed_first _ c.digit_of-value.ensures (omega arith) (omega arith) c.if-value-gt9.false
-
-pub bounds-text-i : goal.bounds-text-i
-bounds-text-i c = omega arith
-
-pub digit_of-digit-requires : goal.digit_of-digit-requires
-digit_of-digit-requires c = tt
-
-pub returns-then-digit-gt9 : goal.returns-then-digit-gt9
-returns-then-digit-gt9 c = none_byte _ _ c.digit_of-digit.ensures (omega arith) c.if-digit-gt9.true
-
-pub overflow_mul-value : goal.overflow_mul-value
-overflow_mul-value c = omega (arith, passed_small _ _ _ c.loop-i.invariant (omega arith))
-
-pub overflow_add-value : goal.overflow_add-value
-overflow_add-value c = omega (arith, passed_small _ _ _ c.loop-i.invariant (omega arith))
-
-pub overflow_add-i : goal.overflow_add-i
-overflow_add-i c = omega arith
-
-pub loop-i-smaller : goal.loop-i-smaller
-loop-i-smaller c = omega arith
-
-pub loop-i-preserved : goal.loop-i-preserved
-loop-i-preserved c = passed_next _ _ _ c.loop-i.invariant c.digit_of-digit.ensures (omega arith) c.if-digit-gt9.false
+pub returns-then-not-is_own : goal.returns-then-not-is_own
+returns-then-not-is_own c =
+    let whole = same_text _ _ _ c.from_utf8.ensures.cases c.ok.ensures.value c.in_ok-ok.was in
+    let own = c.as_bytes-own.ensures.value ∙ c.format.ensures.text ∙ printed c.in_ok-n.n (omega arith) in
+    let is = slice_eq-Decides Decides-eqb _ _ _ c.eq-is_own.ensures in
+    other_read _ _ c.parse.ensures.value.0 whole c.ok-2.ensures.value _ c.in_ok-n.was (
+    λ h k t.
+    true≢false (sym (is.1 (own ∙ sym t)) ∙ c.if-not-is_own.true)
+    )
 
 pub returns : goal.returns
-returns c = passed_all _ _ _ c.loop-i.invariant (omega arith)
+returns c =
+    let whole = same_text _ _ _ c.from_utf8.ensures.cases c.ok.ensures.value c.in_ok-ok.was in
+    let own = c.as_bytes-own.ensures.value ∙ c.format.ensures.text ∙ printed c.in_ok-n.n (omega arith) in
+    let is = slice_eq-Decides Decides-eqb _ _ _ c.eq-is_own.ensures in
+    is_read _ _ c.parse.ensures.value.0 whole c.ok-2.ensures.value _ c.in_ok-n.was (omega arith) (omega arith) (sym (is.0 c.if-not-is_own.false) ∙ own)

@@ -1,6 +1,0 @@
--- The measure of the cycle of calls {put_number} is the number.
--- Assumes nothing.
-use Rattle.text.proofs.number.+put_number.Given as goal
-
-abbrev pub decreases-put_number : goal.decreases-put_number
-decreases-put_number l = l.n
