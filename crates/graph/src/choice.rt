@@ -36,7 +36,8 @@ fn choose_read(n: u64, mask: u64, x: u64) -> Graph
     Graph::PlainRead
 }
 
-// The tests in the paper's order; the count of ones decides small against reconstruct write.
+// The tests in the paper's order, one for each row of its table, so that two rows give one graph; the count of ones decides small
+// against reconstruct write.
 #[tactic(auto, unfolding(crate::specs::Choice::choose_write, crate::specs::Choice::unit_out, terms::specs::Reply::first_row))]
 fn choose_write(n: u64, mask: u64, x: u64) -> Graph
     ensures { number_of_graph result ≡ choose_write n mask x }

@@ -41,6 +41,7 @@ fn needed(n: u64, g: u64, reading: u64, action: Option<Action>) -> u64
 }
 
 // Step k, which does this action, is ready, by the graph's steps and the positions that it reads; beyond 7 units none is.
+// It takes those sets and no `Plan`: a step asks it of what one look at the record found, and that keeps the sets.
 #[tactic(auto, unfolding(crate::specs::Asked::ready_by, crate::specs::Asked::few_units))]
 pub fn ready_by(
     n: u64,
