@@ -2,7 +2,6 @@
 pub mod Zero
 pub mod HeldBefore
 pub mod Clashes
-pub mod Eight
 pub mod Filling
 pub mod Clauses
 pub mod Soundness

@@ -1,4 +1,4 @@
--- What the functions on a record and a table by value answer, on all numbers: beyond the array's limits nothing is ready, and nothing sound.
+-- What the functions on a record and a survey answer, on all numbers: beyond the array's limits nothing is ready, and nothing sound.
 -- Assumes nothing.
 use Rattle.std.specs.Prelude.{ℕ, ◌-◌, ◌^◌, Bool, cond, ◌&&◌, ltb}
 use Rattle.geometry.specs.declared.State.{State}

@@ -1,13 +1,11 @@
 -- Document 01, "The array" and "What the calls do": a request record, at admission, after a step and after a fresh choice.
 -- Assumes nothing.
-use Rattle.std.specs.Prelude.{ℕ, ◌+◌, ◌-◌, Bool, cond, List, eqb, get_or}
-use Rattle.terms.specs.Lists.{tabulate}
+use Rattle.std.specs.Prelude.{ℕ, ◌+◌, ◌-◌, Bool, cond, eqb}
 use Rattle.geometry.specs.Placement.{out_in, missing_at}
 use Rattle.geometry.specs.declared.State.{State}
 use Rattle.graph.specs.Choice.{choose}
 use Rattle.graph.specs.Order.{complete, after}
 use Rattle.record.specs.declared.Record.{Record}
-use Rattle.record.specs.declared.Table.{Table}
 
 -- a record is free, open or finished
 abbrev pub is_free : Record → Bool
@@ -80,7 +78,3 @@ afresh st r =
       done = 0;
       count = r.count + 1;
     }
-
--- the records of a table by value
-unfoldable pub records_of : Table → List Record
-records_of t = tabulate t.len (λ i. get_or t.records i free)

@@ -1,4 +1,4 @@
-// The request record by value, the table of up to eight of them, and what one look at either finds.
+// The request record by value, and what one look finds at it or, record by record, at a table of up to eight.
 // Assumes nothing.
 #![tactic(auto)]
 
@@ -10,7 +10,6 @@ mod life;
 mod phase;
 mod sound;
 mod surveys;
-mod tables;
 
 // A request record. A free one is all zero.
 #[repr(C)]
@@ -30,13 +29,6 @@ pub struct Record {
     pub done: u64,
     // the accepted steps since admission
     pub count: u64,
-}
-
-// A table by value: its records, of which the first len count.
-#[derive(Clone, Copy)]
-pub struct Table {
-    pub records: [Record; 8],
-    pub len: u64,
 }
 
 // What one look at a table finds: how many records it has, whether it is sound, the stripe that each of up to eight holds (or a number
