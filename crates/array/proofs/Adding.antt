@@ -1,12 +1,20 @@
 -- A loop that adds the blocks of the positions that a test takes: a turn adds one more, or passes a position over.
 -- Assumes nothing.
-use Prim.Native.Nat.{ℕ, ◌+◌, ◌≤◌, ◌<◌}
+use Prim.Native.Nat.{ℕ, ◌+◌, ◌*◌, ◌≤◌, ◌<◌}
 use mathlib.Core.Bool.{Bool, true, false, cond}
 use mathlib.Core.List.{List, []}
 use mathlib.Core.Path.{◌≡◌, sym, ap, ◌∙◌}
+use native.Mathlib.Nat.{mul-le-mul_right}
 use native.Mathlib.Omega.{arith}
 use Rattle.block.specs.Blocks.{added, summed}
 use Rattle.block.proofs.Blocks.{summed_none, summed_more, added_zeros}
+
+-- the block of a position ends within what has room for all
+pub block_ends : (first size cards bytes p : ℕ) → p < cards → first + cards * size ≤ bytes → first + p * size + size ≤ bytes
+block_ends first size cards bytes p h room =
+    let m : (p + 1) * size ≤ cards * size = mul-le-mul_right size (let k : p + 1 ≤ cards = omega arith in k) in
+    let q : (p + 1) * size ≡ p * size + size = omega arith in
+    omega (arith, m, q, room)
 
 -- the blocks of the positions below p that the test takes are added
 pub record Added (cards : ℕ) (takes : ℕ → Bool) (block : ℕ → List ℕ) (s₀ s : List ℕ) (p : ℕ) : Type 0 where

@@ -1,7 +1,6 @@
 -- `array::sums::add_taken` meets its contract: after p turns the blocks below p that the set has are added.
 -- Assumes nothing.
 use Prim.Native.Nat.{◌+◌, ◌*◌}
-use mathlib.Core.Path.{◌≡◌}
 use Rattle.terms.specs.Lists.{part}
 use Rattle.terms.specs.Sets.{bit}
 use Rattle.array.proofs.Adding.{Added}
@@ -9,4 +8,4 @@ use Rattle.array.proofs.sums.add_taken.Given as goal
 
 abbrev pub invariant-loop-p : goal.invariant-loop-p
 invariant-loop-p l =
-    (l.at ≡ l.first + l.p * l.size) × Added l.cards (λ q. bit q l.taken) (λ q. part (l.first + q * l.size) l.size l.work) l.initial.sum l.sum l.p
+    Added l.cards (λ q. bit q l.taken) (λ q. part (l.first + q * l.size) l.size l.work) l.initial.sum l.sum l.p
