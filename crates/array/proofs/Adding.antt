@@ -47,7 +47,3 @@ module _ (cards : ℕ) (takes : ℕ → Bool) (block : ℕ → List ℕ) (s₀ :
             ∙ ap (λ (t : List ℕ). added (summed p (λ q. cond (takes q) (block q) []) s₀) t) (sym (rw e))
             ∙ sym (summed_more p (λ q. cond (takes q) (block q) []) s₀);
       }
-
-  pub added_all : (s : List ℕ) (p : ℕ) → Added cards takes block s₀ s p → cards ≤ p → s ≡ summed cards (λ q. cond (takes q) (block q) []) s₀
-  added_all s p a h =
-      a.sum ∙ ap (λ (k : ℕ). summed k (λ q. cond (takes q) (block q) []) s₀) (let e : p ≡ cards = omega (arith, a.below) in e)
