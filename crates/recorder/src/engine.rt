@@ -40,13 +40,14 @@ pub fn coppicetune_open(
         records,
         layout,
     };
-    // (By `if let`: of a closure that stores the state, as in `map`, a proof doesn't know that a refusal never ran it.)
-    let opened = calls::open(geometry, out, table, work, image);
-    let answer = packed(opened);
-    if let Ok(new) = opened {
-        *state = new;
+    // (By a match: of a closure that stores the state, as in `map`, a proof doesn't know that a refusal never ran it.)
+    match calls::open(geometry, out, table, work, image) {
+        Ok(new) => {
+            *state = new;
+            packed(Ok(()))
+        }
+        Err(refusal) => packed::<()>(Err(refusal)),
     }
-    answer
 }
 
 // Admits a request, a read where `write` is 0 and a write where it is any other number.

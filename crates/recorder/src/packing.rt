@@ -7,7 +7,7 @@ ghost use Rattle.geometry.specs.Answers.{said_of_held};
 ghost use Rattle.recorder.specs.Packing.{packed, Roomy};
 
 use array::answers::Stepped;
-use geometry::{Held, Placed, State};
+use geometry::{Held, Placed};
 use terms::Refusal;
 
 // What an accepted answer says: two values, 0 where it has none.
@@ -18,17 +18,8 @@ pub(crate) trait Values {
         ensures { says self ≡ accepted result.0 result.1 };
 }
 
-// Of report, start and a scan: nothing.
+// Of open, report, start and a scan: nothing.
 impl Values for () {
-    ghost says = { λ _. accepted 0 0 };
-
-    fn values(self) -> (u64, u64) {
-        (0, 0)
-    }
-}
-
-// Of open: nothing, since the new state goes where the caller's stood.
-impl Values for State {
     ghost says = { λ _. accepted 0 0 };
 
     fn values(self) -> (u64, u64) {
