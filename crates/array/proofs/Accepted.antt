@@ -2,13 +2,14 @@
 -- Assumes nothing.
 use Prim.Native.Nat.{ℕ, ◌^◌, ◌<◌}
 use mathlib.Core.Bool.{Bool, true, false, not, ◌&&◌, ◌||◌}
-use mathlib.Core.List.{List, ◌++◌}
+use mathlib.Core.List.{List, [], ◌++◌}
 use mathlib.Core.Path.{◌≡◌, refl, sym, ap, ◌∙◌}
 use native.Mathlib.Omega.{arith}
 use borrow.Author.Tests.{le-leb, leb-false, eqb-true, ltb-true, ltb-false, not-false}
 use lib.Dec.{ltb, eqb}
 use lib.ListN.{length}
 use Rattle.terms.specs.Lists.{every}
+use Rattle.terms.specs.Reply.{Reply, accepted, refused, first_row}
 use Rattle.terms.proofs.Refusals.{Failed, giving, zero_failed, failed_first, failed_second}
 use Rattle.terms.proofs.Rows.{and_left, and_right, or_false_left, or_false_right}
 use Rattle.geometry.specs.Limits.{beyond_state}
@@ -29,13 +30,18 @@ use Rattle.record.specs.Sound.{sound_record, legal_mask, right_graph}
 use Rattle.record.specs.Survey.{sound_with}
 use Rattle.record.specs.declared.Record.{Record}
 use Rattle.record.specs.declared.Survey.{Survey}
-use Rattle.record.proofs.Looks.{look_found, after_step_is, after_choice_is}
+use Rattle.record.proofs.Looks.{look_sound, look_found, after_step_is, after_choice_is}
 use Rattle.record.proofs.Clauses.{fit, open_not_free, finished_not_free}
 use Rattle.array.specs.Lent.{table_wrong, lent_rows, unit_bytes}
-use Rattle.array.specs.Premises.{Keeping, Standing, read_by}
+use Rattle.array.specs.Premises.{Keeping, Lengths, Standing, read_by}
 use Rattle.array.specs.Refusals.{admit_refusal, admit_rows, step_refusal, step_rows, collect_refusal, collect_rows, payload_wrong, result_short, step_ready}
 use Rattle.array.proofs.Choices.{choose_two, choose_some}
 use Rattle.array.proofs.Lent.{passed_rows}
+use Rattle.array.proofs.LentRows.{lent_sound}
+
+-- an accepted answer's number
+pub number_0 : (n : ℕ) → accepted 0 0 ≡ refused n → n ≡ 0
+number_0 n e = sym (ap (λ (p : Reply). p.number) e)
 
 pub few_legal : (st : State) → legal_state st ≡ true → few_in st ≡ true
 unfolding few_units
@@ -98,6 +104,16 @@ module _ (st : State) (r : Record) (look : Look) (is : look ≡ look_of st r) (b
 pub own_sound : (st : State) (v : Survey) (r : Record) → sound_with st v r ≡ true → sound_record st r ≡ true
 unfolding sound_with
 own_sound st v r e = and_right v.sound (sound_record st r) (and_left (v.sound && sound_record st r) _ e)
+
+-- a look tells whether its record is sound, and where rows 1 to 4 let a call pass it is
+pub looked_sound : (st : State) (r : Record) (look : Look) → look ≡ look_of st r → look.sound ≡ sound_record_in st r
+looked_sound st r look is = ap (λ (l : Look). l.sound) is ∙ look_sound st r
+
+pub passed_sound : (st : State) (wrong : Bool) (v : Survey) (r : Record) → accepted 0 0 ≡ refused (first_row (lent_rows st wrong (sound_with st v r)))
+    → sound_record st r ≡ true
+passed_sound st wrong v r e = own_sound st v r (lent_sound st wrong (sound_with st v r) [] e)
+
+pub ruleset looked = (looked_sound, passed_sound, look_ready)
 
 module _ (st : State) (v : Survey) (r : Record) (work image : List ℕ) (i k : ℕ) where
   -- an accepted step, by what a look at the record finds: it can be done, and the record after it is the paper's
@@ -198,3 +214,64 @@ admit_accepted st v work image write s mask payload e w =
             room = omega (arith, eqb-true (length payload) (unit_bytes st mask) (not-false _ long));
           };
     }
+
+-- what the code's own values rest on there
+module _ (st : State) (v : Survey) (r : Record) (work : List ℕ) (i : ℕ) (result : List ℕ) (z : accepted 0 0 ≡ refused (collect_refusal st v r work i result)) (reads : is_write r ≡ false) where
+  pub collect_limits : beyond_state st ≡ false
+  collect_limits = (collect_accepted st v r work i result (number_0 _ z) reads).limits
+
+  pub collect_below : i < st.records
+  collect_below = (collect_accepted st v r work i result (number_0 _ z) reads).below
+
+  pub collect_keeping : Keeping st r.mask result work
+  collect_keeping = (collect_accepted st v r work i result (number_0 _ z) reads).keeping
+
+pub ruleset collect_rests = (collect_limits, collect_below, collect_keeping)
+
+module _ (st : State) (v : Survey) (work image : List ℕ) (write : Bool) (s mask : ℕ) (payload : List ℕ) (z : accepted 0 0 ≡ refused (admit_refusal st v work image write s mask payload)) (writes : write ≡ true) where
+  pub admit_limits : beyond_state st ≡ false
+  admit_limits = (admit_accepted st v work image write s mask payload (number_0 _ z) writes).limits
+
+  pub admit_below : v.free < st.records
+  admit_below = (admit_accepted st v work image write s mask payload (number_0 _ z) writes).below
+
+  pub admit_keeping : Keeping st mask payload work
+  admit_keeping = (admit_accepted st v work image write s mask payload (number_0 _ z) writes).keeping
+
+pub ruleset admit_rests = (admit_limits, admit_below, admit_keeping)
+
+module _ (st : State) (v : Survey) (r : Record) (work image : List ℕ) (i k : ℕ) (look : Look) (is : look ≡ look_of st r) (z : accepted 0 0 ≡ refused (step_refusal st v r work image i k)) where
+  stepping : Stepped st v r work image i k look
+  stepping = step_accepted st v r work image i k look is (number_0 _ z)
+
+  pub step_limits : beyond_state st ≡ false
+  step_limits = stepping.limits
+
+  pub step_below : i < st.records
+  step_below = stepping.standing.record_below
+
+  pub step_stripe : r.stripe < st.stripes
+  step_stripe = stepping.standing.stripe_below
+
+  pub step_x : look.x ≡ chosen_at st r
+  step_x = stepping.x_is
+
+  pub step_reads : look.reads ≡ read_by st r
+  step_reads = stepping.reads_are
+
+  pub step_x_below : sums_to_read r.graph ≡ true → look.x < st.cards
+  step_x_below e = rw stepping.x_is (stepping.standing.x_below e)
+
+  pub step_lengths : Lengths st work image
+  step_lengths = record { work_right = stepping.standing.work_right; image_right = stepping.standing.image_right }
+
+  pub step_out : look.out ≡ missing_in st r.stripe
+  step_out = stepping.out_is
+
+  pub step_done : after_step r k look.steps ≡ stepped st r k
+  step_done = stepping.done
+
+  pub step_afresh : after_choice st r look.out ≡ afresh st r
+  step_afresh = stepping.afresh
+
+pub ruleset step_rests = (step_limits, step_below, step_stripe, step_x, step_reads, step_x_below, step_out, step_done, step_afresh)

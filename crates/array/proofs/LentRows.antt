@@ -1,11 +1,9 @@
 -- The rows that every call on the table begins with, and then a call's own, as the code meets them: `?` hands on the refusal of the first ones, and
 -- where they let the call pass its own decide.
 -- Assumes nothing.
-use Prim.Native.Nat.{◌≤◌}
 use mathlib.Core.Bool.{Bool, true, false}
 use mathlib.Core.List.{List, ◌++◌}
 use mathlib.Core.Path.{◌≡◌, refl, sym, ap}
-use native.Mathlib.Omega.{arith}
 use Rattle.terms.specs.Lists.{every}
 use Rattle.terms.specs.Reply.{Reply, Row, first_row, accepted, refused, refusal_reply}
 use Rattle.terms.specs.declared.refusal.Refusal.{Refusal}
@@ -13,7 +11,6 @@ use Rattle.terms.proofs.Refusals.{Failed, giving, zero_failed, first_row_behind}
 use Rattle.geometry.specs.Limits.{beyond_state}
 use Rattle.geometry.specs.declared.State.{State}
 use Rattle.geometry.proofs.StateRows.{rows_refuse}
-use Rattle.geometry.proofs.States.{state_bounds}
 use Rattle.array.specs.Lent.{lent_rows}
 use Rattle.array.proofs.Lent.{passed_rows}
 
@@ -42,3 +39,5 @@ module _ (st : State) (wrong sound : Bool) (own : List Row) where
 
     pub lent_sound : sound ≡ true
     lent_sound = (passed_rows st wrong sound failed).is_fine
+
+pub ruleset lent_tests = (beyond_refuses, lent_refuses, lent_passes)

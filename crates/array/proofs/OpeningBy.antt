@@ -123,3 +123,5 @@ module _ (g : Geometry) (out : ℕ) (len : ℕ) (work image : List ℕ) (made : 
       pub told_wrong : out ≡ none → (r : Refusal) → refusal_reply r ≡ look_reply made image (among (replicate 8 1024))
           → OpeningIs (opening_by g out len work image) (Err r)
       told_wrong o r e = open_wrong g out len work image (rw is at b) (rw is at w) o r (rw is at e)
+
+pub ruleset open_tests = (told_beyond, told_lengths, told_out, told_right, told_wrong)

@@ -21,12 +21,8 @@ use Rattle.array.specs.Outcomes.{SteppingIs}
 use Rattle.array.specs.Refusals.{step_refusal, rebuild_refusal}
 use Rattle.array.specs.Stepping.{stepping_by, accepting, meets_out, work_after, image_after}
 use Rattle.array.specs.declared.answers.Stepped.{Stepped}
-use Rattle.array.proofs.Accepted.{afresh_some}
+use Rattle.array.proofs.Accepted.{number_0, afresh_some}
 use Rattle.array.proofs.Rebuildings.{rebuild_passed_by, filled_restored}
-
--- an accepted answer's number
-pub number_0 : (n : ℕ) → accepted 0 0 ≡ refused n → n ≡ 0
-number_0 n e = sym (ap (λ (p : Reply). p.number) e)
 
 module _ (st : State) (v : Survey) (r : Record) (work image : List ℕ) (i k : ℕ) where
   abbrev number : ℕ
@@ -82,6 +78,8 @@ module _ (st : State) (v : Survey) (r : Record) (work image : List ℕ) (i k : �
           work_left = simp (accept, works) (hw ∙ ap (λ (u : Step). work_after st i r u work image) t);
           image_left = simp (accept, works) (hm ∙ ap (λ (u : Step). image_after st i r u work image) t);
         }
+
+pub ruleset step_outcomes = (stepping_refused, stepping_afresh, stepping_done)
 
 -- an accepted rebuild step's block is in the image, so that whoever tests that restores it
 pub rebuilding_filled : (st : State) (v : Survey) (image : List ℕ) → accepted 0 0 ≡ refused (rebuild_refusal st v image)

@@ -72,3 +72,5 @@ module _ (st : State) (v : Survey) (image : List ℕ) where
         sym (look_all st image (among v.held) b whole)
         ∙ last_row right (disagreement st.cards st.stripes st.block image (held_in v))
         ∙ sym (rw number)
+
+pub ruleset scan_tests = (scan_beyond, scan_lent, scan_out, scan_all)

@@ -15,8 +15,9 @@ use record::{Survey, admitted, legal_mask};
 use terms::Refusal;
 
 impl Row {
-    // Copies a write's units, ascending, each to that unit's block to write of the record.
-    #[tactic(auto, using(crate::proofs::Within::within))]
+    // Copies a write's units, ascending, each to that unit's block to write of the record. (One function for this and `hand_over` would take the
+    // side that is packed as a closure over what is lent, and a contract for it: no plainer.)
+    #[tactic(auto, using(crate::proofs::Within::within, crate::proofs::Units::turned_all), unfolding(crate::specs::Admission::keep_units))]
     fn keep_units(self, mask: u64, payload: &[u8], work: &mut [u8])
         requires { Keeping self.of.state mask payload.now work.old }
         ensures { work.new ≡ keep_units self.of.state self.number mask payload.now work.old }
@@ -34,7 +35,7 @@ impl Row {
 }
 
 // Whether admit is refused, in the paper's order.
-#[tactic(auto, using(crate::proofs::LentRows::beyond_refuses, crate::proofs::LentRows::lent_refuses, crate::proofs::LentRows::lent_passes, crate::proofs::Within::within), unfolding(crate::specs::Refusals::admit_refusal, crate::specs::Refusals::admit_rows, crate::specs::Refusals::payload_wrong, terms::specs::Reply::first_row))]
+#[tactic(auto, using(crate::proofs::LentRows::lent_tests, crate::proofs::Within::within), unfolding(crate::specs::Refusals::admit_refusal, crate::specs::Refusals::admit_rows, crate::specs::Refusals::payload_wrong, terms::specs::Reply::first_row))]
 fn admit_check(
     state: State,
     survey: Survey,
@@ -72,7 +73,7 @@ fn admit_check(
 }
 
 // Admits a request by a survey of the table: the record's number, and the record that is taken, with its place.
-#[tactic(auto, using(terms::proofs::Answers::left_refused), unfolding(crate::specs::Admission::admission_by))]
+#[tactic(auto, using(terms::proofs::Answers::left_refused, crate::proofs::Accepted::admit_rests), unfolding(crate::specs::Admission::admission_by))]
 pub fn admit_by(
     state: State,
     survey: Survey,

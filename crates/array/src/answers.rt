@@ -10,7 +10,7 @@ pub enum Stepped {
 }
 
 // What an accepted call on the table changes: what it answers, the record that stands after it, and its place.
-#[derive(Clone, Copy)]
+#[derive(Clone, Copy, Debug, PartialEq, Eq)]
 pub struct Changed<A> {
     pub answer: A,
     pub place: u64,
@@ -18,7 +18,7 @@ pub struct Changed<A> {
 }
 
 // What a rebuild step fills: the stripe, and the state after it.
-#[derive(Clone, Copy)]
+#[derive(Clone, Copy, Debug, PartialEq, Eq)]
 pub struct Filled {
     pub stripe: u64,
     pub state: State,

@@ -16,7 +16,7 @@ use terms::Refusal;
 
 impl Row {
     // Copies the units that the record read, ascending, to the front of the result buffer.
-    #[tactic(auto, using(crate::proofs::Within::within))]
+    #[tactic(auto, using(crate::proofs::Within::within, crate::proofs::Units::turned_all), unfolding(crate::specs::Collection::hand_over))]
     fn hand_over(self, mask: u64, work: &[u8], res: &mut [u8])
         requires { Keeping self.of.state mask res.old work.now }
         ensures { res.new ≡ hand_over self.of.state self.number mask work.now res.old }
@@ -34,7 +34,7 @@ impl Row {
 }
 
 // Whether collect is refused, in the paper's order. It isn't lent the image.
-#[tactic(auto, using(crate::proofs::LentRows::beyond_refuses, crate::proofs::LentRows::lent_refuses, crate::proofs::LentRows::lent_passes), unfolding(crate::specs::Refusals::collect_refusal, crate::specs::Refusals::collect_rows, crate::specs::Refusals::result_short, terms::specs::Reply::first_row))]
+#[tactic(auto, using(crate::proofs::LentRows::lent_tests), unfolding(crate::specs::Refusals::collect_refusal, crate::specs::Refusals::collect_rows, crate::specs::Refusals::result_short, terms::specs::Reply::first_row))]
 fn collect_check(
     state: State,
     survey: Survey,
@@ -64,7 +64,7 @@ fn collect_check(
 }
 
 // Collects finished record i, which is r, by a survey of the rest of the table: its count of steps, and the freed record, with its place.
-#[tactic(auto, using(terms::proofs::Answers::left_refused), unfolding(crate::specs::Collection::collection_by))]
+#[tactic(auto, using(terms::proofs::Answers::left_refused, crate::proofs::Accepted::collect_rests), unfolding(crate::specs::Collection::collection_by))]
 pub fn collect_by(
     state: State,
     survey: Survey,

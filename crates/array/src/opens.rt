@@ -28,7 +28,7 @@ fn opened(g: Geometry, out: u64) -> State
 }
 
 // Opens an array over a table of so many records: the new state. Who lends the table frees every record where it is accepted.
-#[tactic(auto, using(crate::proofs::OpeningBy::told_beyond, crate::proofs::OpeningBy::told_lengths, crate::proofs::OpeningBy::told_out, crate::proofs::OpeningBy::told_right, crate::proofs::OpeningBy::told_wrong))]
+#[tactic(auto, using(crate::proofs::OpeningBy::open_tests))]
 pub fn open_by(
     geometry: Geometry,
     out: u64,

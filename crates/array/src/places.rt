@@ -23,7 +23,8 @@ pub(crate) struct Row {
     ghost below: { number < of.state.records },
 }
 
-// Where a block starts that stands in this column of this row, in rows of so many blocks.
+// Where a block starts that stands in this column of this row, in rows of so many blocks. (Geometry has one of its own behind its tests: to share
+// it would take a `pub fn` with a `requires`, which no crate has.)
 fn offset(row: u64, width: u64, column: u64, block: u64) -> usize
     requires { (row ≤ 8) × (width ≤ 1024) × (column ≤ 1024) × (block ≤ 512) }
     ensures { result ≡ (row * width + column) * block }
@@ -58,6 +59,7 @@ impl Legal {
     }
 
     // The block of a card and a stripe: a part of the image that starts in its middle.
+    #[tactic(auto, using(geometry::proofs::Apart::cell_inside), unfolding(terms::specs::Lists::part))]
     pub(crate) fn cell<'a>(self, image: &'a [u8], card: u64, stripe: u64) -> &'a [u8]
         requires { (card < self.state.cards) × (stripe < self.state.stripes) × (length image.now ≡ image_size self.state.cards self.state.stripes self.state.block) }
         ensures { result.now ≡ part (cell_at self.state.stripes self.state.block card stripe) self.state.block image.now }

@@ -15,7 +15,7 @@ use record::Survey;
 use terms::Refusal;
 
 // Whether rebuild is refused, in the paper's order. It isn't lent the work store.
-#[tactic(auto, using(crate::proofs::LentRows::beyond_refuses, crate::proofs::LentRows::lent_refuses, crate::proofs::LentRows::lent_passes), unfolding(crate::specs::Refusals::rebuild_refusal, crate::specs::Refusals::rebuild_rows, terms::specs::Reply::first_row))]
+#[tactic(auto, using(crate::proofs::LentRows::lent_tests), unfolding(crate::specs::Refusals::rebuild_refusal, crate::specs::Refusals::rebuild_rows, terms::specs::Reply::first_row))]
 fn rebuild_check(state: State, survey: Survey, image: &[u8]) -> Result<(), Refusal>
     ensures { done_reply result ≡ refused (rebuild_refusal state survey image.now) }
 {

@@ -11,7 +11,7 @@ use record::Survey;
 use terms::Refusal;
 
 // Scans the stripes that no open request holds, by a survey of the table. It isn't lent the work store.
-#[tactic(auto, using(crate::proofs::ScanBy::scan_beyond, crate::proofs::ScanBy::scan_lent, crate::proofs::ScanBy::scan_out, crate::proofs::ScanBy::scan_all))]
+#[tactic(auto, using(crate::proofs::ScanBy::scan_tests))]
 pub fn scan_by(state: State, survey: Survey, image: &[u8]) -> Result<(), Refusal>
     ensures { done_reply result ≡ scan_reply_by state survey image.now }
 {

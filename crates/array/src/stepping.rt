@@ -19,7 +19,7 @@ use record::{Look, Record, Survey};
 use terms::Refusal;
 
 // Whether step is refused, in the paper's order. What a look at the record finds is given, and what step k does.
-#[tactic(auto, using(crate::proofs::LentRows::beyond_refuses, crate::proofs::LentRows::lent_refuses, crate::proofs::LentRows::lent_passes, crate::proofs::Within::within), unfolding(crate::specs::Refusals::step_refusal, crate::specs::Refusals::step_rows, terms::specs::Reply::first_row))]
+#[tactic(auto, using(crate::proofs::LentRows::lent_tests, crate::proofs::Within::within, crate::proofs::Accepted::looked), unfolding(crate::specs::Refusals::step_refusal, crate::specs::Refusals::step_rows, terms::specs::Reply::first_row))]
 fn step_check(
     state: State,
     survey: Survey,
@@ -73,7 +73,7 @@ fn meets_out(action: Option<Action>, x: u64) -> bool
 
 // Does step k of record i, which is r, by a survey of the rest of the table: whether it is done or chosen afresh, and the record after
 // it, with its place.
-#[tactic(auto, using(crate::proofs::Outcomes::stepping_refused))]
+#[tactic(auto, using(crate::proofs::Accepted::step_rests, crate::proofs::Outcomes::step_outcomes))]
 pub fn step_by(
     state: State,
     survey: Survey,

@@ -8,7 +8,7 @@ ghost use Rattle.geometry.specs.Store.{work_size};
 use crate::places::Row;
 use block::{add, carry};
 
-// Adds the blocks of a set of positions, which stand one behind the other from a place on.
+// Adds the blocks of a set of positions, which stand one behind the other from a place on. (`chunks_exact` would divide by B at each sum.)
 fn add_taken(sum: &mut [u8; 512], taken: u64, first: usize, cards: u64, size: usize, work: &[u8])
     requires { (cards ≤ 8) × (first + cards * size ≤ length work.now) }
     ensures { sum.new ≡ summed cards (taken_if taken first size work.now) sum.old }

@@ -5,11 +5,10 @@ use mathlib.Core.List.{List}
 use mathlib.Core.Path.{◌≡◌, ap₂}
 use native.Mathlib.Nat.{mul-le-mul_right, add-sub_cancel_left}
 use native.Mathlib.Omega.{arith}
-use borrow.Author.Rules.{rules}
-use lib.ListN.{length, take, drop}
+use lib.ListN.{take, drop}
 use Rattle.terms.specs.Lists.{part}
 use Rattle.terms.proofs.Bits.{bit_odd, bit_even}
-use Rattle.array.proofs.Adding.{added_none, added_more, added_pass, added_all}
+use Rattle.array.proofs.Adding.{added_none, added_more, added_pass}
 use Rattle.array.proofs.sums.add_taken.Goals as goal
 use Rattle.array.proofs.sums.add_taken.Goals.{then-taken-p-eq1, else-taken-p-eq1}
 
@@ -28,19 +27,6 @@ slice work at place size e = ap₂ (λ (k a : ℕ). take k (drop a work)) (add-s
 pub loop-p-init : goal.loop-p-init
 loop-p-init c = (omega arith, added_none _ _ _ _)
 
-pub overflow_add-end : goal.overflow_add-end
-overflow_add-end c =
-    let inside : c.loop-p.at + c.args.size ≤ length c.args.work.now = let l = c.loop-p in ends c.args.first c.args.size c.args.cards (length c.args.work.now) l.at l.p l.invariant.0 c.loop-p-test.true c.requires.1 in
-    let h = inside in search rules
-
-pub overflow_shr-taken : goal.overflow_shr-taken
-overflow_shr-taken c = omega (arith, c.loop-p-test.true, c.requires.0)
-
-pub slice_bounds-add-end : goal.slice_bounds-add-end
-slice_bounds-add-end c =
-    let inside : c.loop-p.at + c.args.size ≤ length c.args.work.now = let l = c.loop-p in ends c.args.first c.args.size c.args.cards (length c.args.work.now) l.at l.p l.invariant.0 c.loop-p-test.true c.requires.1 in
-    omega (arith, inside)
-
 pub loop-p-preserved : goal.loop-p-preserved
 loop-p-preserved c =
     let k = c.loop-p in
@@ -53,6 +39,3 @@ loop-p-preserved c =
         | else-taken-p-eq1 w ↦ rw w.sum-is (added_pass _ _ _ _ k.sum k.p k.invariant.1 below (bit_even k.p a.taken w.if-taken-p-eq1.false))
       ],
     )
-
-pub returns : goal.returns
-returns c = added_all _ _ _ _ c.loop-p.sum c.loop-p.p c.loop-p.invariant.1 c.loop-p-test.false

@@ -2,9 +2,7 @@
 -- Assumes nothing.
 use Prim.Native.Nat.{ℕ}
 use mathlib.Core.Path.{ap₂, ◌∙◌}
-use native.Mathlib.Omega.{arith}
 use Rattle.block.specs.Blocks.{carried}
-use Rattle.geometry.proofs.States.{state_bounds}
 use Rattle.array.specs.Sums.{block_sum}
 use Rattle.array.proofs.Performed.{news_are, performed_sum, sum_room}
 use Rattle.array.proofs.StandingOf.{standing_of}

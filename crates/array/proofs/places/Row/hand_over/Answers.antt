@@ -2,9 +2,7 @@
 -- Assumes nothing.
 use native.Mathlib.Omega.{arith}
 use Rattle.terms.proofs.Bits.{bit_odd, bit_even}
-use Rattle.geometry.proofs.States.{state_bounds}
-use Rattle.array.specs.Collection.{hand_over}
-use Rattle.array.proofs.Units.{turned_none, turned_pass, turned_all, keep_room, hand_more}
+use Rattle.array.proofs.Units.{turned_none, turned_pass, hand_more, keep_room}
 use Rattle.array.proofs.places.Row.hand_over.Goals as goal
 use Rattle.array.proofs.places.Row.hand_over.Goals.{then-mask-u-eq1, else-mask-u-eq1}
 
@@ -35,12 +33,3 @@ loop-u-preserved c =
           rw (w.res-is, w.place-is)
           (turned_pass _ _ _ _ _ k.res k.place k.u k.invariant c.loop-u-test.true (bit_even k.u a.mask w.if-mask-u-eq1.false) (rw (bit_even k.u a.mask w.if-mask-u-eq1.false)))
     ]
-
-pub shape_of-res : goal.shape_of-res
-shape_of-res c = c.loop-u.invariant.as_long
-
-pub returns : goal.returns
-unfolding hand_over
-returns c =
-    let k = c.loop-u in
-    turned_all _ _ _ _ _ k.res k.place k.u k.invariant c.loop-u-test.false

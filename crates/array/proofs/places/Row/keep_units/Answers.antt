@@ -2,9 +2,7 @@
 -- Assumes nothing.
 use native.Mathlib.Omega.{arith}
 use Rattle.terms.proofs.Bits.{bit_odd, bit_even}
-use Rattle.geometry.proofs.States.{state_bounds}
-use Rattle.array.specs.Admission.{keep_units}
-use Rattle.array.proofs.Units.{turned_none, turned_pass, turned_all, keep_room, keep_more}
+use Rattle.array.proofs.Units.{turned_none, turned_pass, keep_more, keep_room}
 use Rattle.array.proofs.places.Row.keep_units.Goals as goal
 use Rattle.array.proofs.places.Row.keep_units.Goals.{then-mask-u-eq1, else-mask-u-eq1}
 
@@ -35,12 +33,3 @@ loop-u-preserved c =
           rw (w.work-is, w.from-is)
           (turned_pass _ _ _ _ _ k.work k.from k.u k.invariant c.loop-u-test.true (bit_even k.u a.mask w.if-mask-u-eq1.false) (rw (bit_even k.u a.mask w.if-mask-u-eq1.false)))
     ]
-
-pub shape_of-work : goal.shape_of-work
-shape_of-work c = c.loop-u.invariant.as_long
-
-pub returns : goal.returns
-unfolding keep_units
-returns c =
-    let k = c.loop-u in
-    turned_all _ _ _ _ _ k.work k.from k.u k.invariant c.loop-u-test.false

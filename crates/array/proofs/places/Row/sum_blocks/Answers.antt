@@ -2,11 +2,9 @@
 -- Assumes nothing.
 use Prim.Native.Nat.{ℕ, ◌+◌, ◌-◌, ◌*◌, ◌≤◌}
 use mathlib.Core.List.{List}
-use mathlib.Core.Path.{◌≡◌, sym, ap, ap₂, ◌∙◌}
+use mathlib.Core.Path.{◌≡◌, ap, ap₂, ◌∙◌}
 use native.Mathlib.Omega.{arith}
-use lib.ListN.{length, length-replicate}
 use Rattle.block.specs.Blocks.{carried, summed, zeros}
-use Rattle.block.proofs.Blocks.{length_summed}
 use Rattle.geometry.proofs.Apart.{read_inside, write_inside}
 use Rattle.geometry.proofs.Asked.{BoundsOf}
 use Rattle.geometry.proofs.States.{state_bounds}
@@ -41,15 +39,6 @@ add_taken-requires-2 c =
       rw (c.write_at-new.ensures, c.requires)
           (row_room st.cards st.block _ _ _ (omega (arith, bounds)) (write_row st.cards st.block row.number (st.cards - 1)) (write_inside st.cards st.block st.records row.number (st.cards - 1) row.below (omega (arith, bounds)))),
     )
-
-pub slice_bounds-carry-end : goal.slice_bounds-carry-end
-slice_bounds-carry-end c =
-    sym
-    (ap length c.add_taken-2.ensures
-    ∙ length_summed _ _ _
-    ∙ ap length c.add_taken.ensures
-    ∙ length_summed _ _ _
-    ∙ length-replicate {A = ℕ} 512 0)
 
 pub returns : goal.returns
 unfolding block_sum
