@@ -1,5 +1,4 @@
--- One look at a table: what the calls ask of it beside the one record that they are about. Functions that take a survey copy eleven numbers, where
--- a table by value has sixty-four.
+-- One look at a table: what the calls ask of it beside the one record that they are about, as eleven numbers.
 -- Assumes nothing.
 use Rattle.std.specs.Prelude.{ℕ, Bool, cond, false, not, ◌&&◌, List, leb, length, get_or, set, replicate}
 use Rattle.terms.specs.Lists.{tabulate, among}
