@@ -5,7 +5,8 @@ use Prim.Native.Nat.{ℕ}
 use mathlib.Core.List.{List}
 use mathlib.Core.Path.{◌≡◌, refl, sym, ap, ◌∙◌}
 use borrow.Author.Tests.{eqb-false}
-use Rattle.std.specs.Prelude.{Option, Some, None, Result, Ok, Err, ⊤, IfOk}
+use native.Mathlib.Omega.{arith}
+use Rattle.std.specs.Prelude.{Option, Some, None, Result, Ok, Err, ⊤, IfOk, cond, eqb, ◌≤◌, ◌<◌}
 use Rattle.terms.specs.Reply.{Reply, accepted, number_of, reply_of, done_reply}
 use Rattle.terms.specs.declared.refusal.Refusal.{Refusal}
 use Rattle.terms.proofs.Answers.{number_not_0, refusal_named, done_named, value_named}
@@ -17,7 +18,11 @@ use Rattle.geometry.specs.declared.Placed.{Placed}
 use Rattle.geometry.specs.declared.State.{State}
 use Rattle.geometry.proofs.Single.{placed_one, held_one}
 use Rattle.graph.specs.Asked.{action_step}
+use Rattle.graph.specs.Named.{number_of_graph, Numbered}
 use Rattle.graph.specs.Steps.{Step, rd, xr, wr, nil}
+use Rattle.graph.specs.declared.named.Graph.{Graph}
+use Rattle.graph.specs.declared.named.Graph.TheVariants as graph
+use Rattle.graph.specs.declared.named.UnknownGraph.{UnknownGraph}
 use Rattle.graph.specs.declared.steps.Action.{Action}
 use Rattle.graph.specs.declared.steps.Action.TheVariants as action
 use Rattle.parity.specs.Rest.{restored_in}
@@ -166,6 +171,46 @@ module _ {r : Reply} where
 
   pub block_at_one : (a b : Result Held Refusal) → held_reply a ≡ r → held_reply b ≡ r → a ≡ b
   block_at_one a b p q = held_one a b (p ∙ sym q)
+
+-- the choice of a graph, and the graph of a number
+abbrev graph_of : ℕ → Graph
+graph_of g =
+    cond (eqb g 1) graph.PlainRead (
+    cond (eqb g 2) graph.DegradedRead (
+    cond (eqb g 3) graph.SmallWrite (
+    cond (eqb g 4) graph.ReconstructWrite (
+    cond (eqb g 5) graph.LargeWrite graph.ParityFailed))))
+
+graph_named : (a : Graph) → graph_of (number_of_graph a) ≡ a
+graph_named graph.PlainRead = refl
+graph_named graph.DegradedRead = refl
+graph_named graph.SmallWrite = refl
+graph_named graph.ReconstructWrite = refl
+graph_named graph.LargeWrite = refl
+graph_named graph.ParityFailed = refl
+
+pub choose_one : {g : ℕ} (a b : Graph) → number_of_graph a ≡ g → number_of_graph b ≡ g → a ≡ b
+choose_one a b p q = sym (graph_named a) ∙ ap graph_of (p ∙ sym q) ∙ graph_named b
+
+six : (a : Graph) → (1 ≤ number_of_graph a) × (number_of_graph a ≤ 6)
+six graph.PlainRead = (omega arith, omega arith)
+six graph.DegradedRead = (omega arith, omega arith)
+six graph.SmallWrite = (omega arith, omega arith)
+six graph.ReconstructWrite = (omega arith, omega arith)
+six graph.LargeWrite = (omega arith, omega arith)
+six graph.ParityFailed = (omega arith, omega arith)
+
+none : {g : ℕ} (a : Graph) → number_of_graph a ≡ g → (1 ≤ g → 6 < g) → ⊥
+none a p q =
+    let s = six a in
+    let h = q (omega (arith, s.0, p)) in
+    omega (arith, s.1, p, h)
+
+pub graph_one : (g : ℕ) (a b : Result Graph UnknownGraph) → Numbered g a → Numbered g b → a ≡ b
+graph_one g (Ok a) (Ok b) p q = ap Ok (choose_one a b p q)
+graph_one g (Ok a) (Err e) p q = absurd (none a p q.1)
+graph_one g (Err e) (Ok b) p q = absurd (none b q p.1)
+graph_one g (Err e) (Err f) p q = ap Err (ap (λ (n : ℕ). record { 0 = n }) (p.0 ∙ sym q.0))
 
 -- what a step does, of the graphs
 abbrev action_of : Step → Option Action

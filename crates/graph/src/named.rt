@@ -1,6 +1,6 @@
 // The six graphs of document 01, by name and by number.
-ghost use Rattle.std.specs.Prelude.{◌≡◌};
-ghost use Rattle.graph.specs.Named.{number_of_graph, Numbered};
+ghost use Rattle.std.specs.Prelude.{◌≡◌, ◌++◌, Some, codes, decimal};
+ghost use Rattle.graph.specs.Named.{number_of_graph, name_of_graph, Numbered};
 
 use std::error::Error;
 use std::fmt;
@@ -55,6 +55,8 @@ impl TryFrom<u64> for Graph {
 }
 
 impl fmt::Display for Graph {
+    ghost output = { λ graph. Some (name_of_graph graph) };
+
     fn fmt<W: fmt::Write>(&self, f: &mut fmt::Formatter<W>) -> fmt::Result {
         f.write_str(match self {
             Graph::PlainRead => "plain read",
@@ -68,6 +70,8 @@ impl fmt::Display for Graph {
 }
 
 impl fmt::Display for UnknownGraph {
+    ghost output = { λ unknown. Some (codes "no graph has the number " ++ decimal unknown.0) };
+
     fn fmt<W: fmt::Write>(&self, f: &mut fmt::Formatter<W>) -> fmt::Result {
         write!(f, "no graph has the number {}", self.0)
     }

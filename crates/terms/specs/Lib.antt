@@ -2,3 +2,4 @@
 pub mod Reply
 pub mod Sets
 pub mod Lists
+pub mod Reasons

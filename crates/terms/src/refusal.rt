@@ -1,6 +1,7 @@
 // The refusals of document 01, and of Q-1 of document 02: why a call was refused.
 // Assumes nothing.
-ghost use Rattle.std.specs.Prelude.{◌≡◌};
+ghost use Rattle.std.specs.Prelude.{◌≡◌, Some};
+ghost use Rattle.terms.specs.Reasons.{reason};
 ghost use Rattle.terms.specs.Reply.{number_of};
 
 use std::error::Error;
@@ -60,6 +61,8 @@ impl Refusal {
 }
 
 impl fmt::Display for Refusal {
+    ghost output = { λ r. Some (reason r) };
+
     fn fmt<W: fmt::Write>(&self, f: &mut fmt::Formatter<W>) -> fmt::Result {
         f.write_str(match self {
             Refusal::BeyondLimits => "beyond the limits",
