@@ -1,6 +1,5 @@
 -- A call that is given a survey of a lent table, or of the rest of it and the record at i, or its length, does what the lent call does of that
--- table: an accepted one puts the changed record in its place, and a refused one leaves the table. And a call that hands back the state leaves a lent
--- one where it is refused.
+-- table: an accepted one puts the changed record in its place, and a refused one leaves the table.
 -- Assumes nothing.
 use Prim.Native.Nat.{ℕ}
 use mathlib.Core.Bool.{Bool, cond}
@@ -12,8 +11,6 @@ use Rattle.std.specs.Prelude.{Result, Ok, Err, ⊤, is_ok}
 use Rattle.terms.specs.Reply.{Reply, refusal_reply, number_of, done_reply}
 use Rattle.terms.specs.declared.refusal.Refusal.{Refusal}
 use Rattle.terms.proofs.Answers.{number_not_0}
-use Rattle.geometry.specs.Fill.{Starting, StartingIs, StartedIs, starting}
-use Rattle.geometry.specs.Report.{Reporting, ReportingIs, ReportedIs, reporting}
 use Rattle.geometry.specs.declared.Geometry.{Geometry}
 use Rattle.geometry.specs.declared.State.{State}
 use Rattle.parity.specs.Rest.{restored_in}
@@ -25,8 +22,6 @@ use Rattle.array.proofs.Admissions.{admit_number_law, admit_refused}
 use Rattle.array.proofs.Collections.{collect_number_law, collect_refused}
 use Rattle.array.proofs.Openings.{open_number_law, open_refused}
 use Rattle.array.proofs.Rebuildings.{rebuild_number_law, rebuild_refused}
-use Rattle.array.proofs.Reports.{report_number, report_refused}
-use Rattle.array.proofs.Starts.{start_number, start_refused}
 use Rattle.array.proofs.Steppings.{step_number_law, step_refused}
 use Rattle.array.specs.Admission.{Admission, admission_by, admission}
 use Rattle.array.specs.Collection.{Collection, collection_by, collection}
@@ -120,13 +115,3 @@ module _ (l : List Record) where
         let is : RebuildingSaid (rebuilding_by st (survey_of st l) image) st image (Err e) = rw (survey_whole st l) at before in
         let left = rebuild_refused st l image (refuses e is.reply (rebuild_number_law st l image)) in
         record { reply = is.reply; state_left = sym (ap (λ (d : Rebuilding). d.state) left); image_left = sym (ap (λ (d : Rebuilding). d.image) left) }
-
--- ---- the state, where it is lent
-
-pub report_kept : (st : State) (c : ℕ) (e : Refusal) → ReportedIs (reporting st c) (Err e) → ReportingIs (reporting st c) (Err e) st
-report_kept st c e is =
-    record { reply = is.reply; state_left = sym (ap (λ (d : Reporting). d.state) (report_refused st c (refuses e is.reply (report_number st c)))) }
-
-pub start_kept : (st : State) (e : Refusal) → StartedIs (starting st) (Err e) → StartingIs (starting st) (Err e) st
-start_kept st e is =
-    record { reply = is.reply; state_left = sym (ap (λ (d : Starting). d.state) (start_refused st (refuses e is.reply (start_number st)))) }

@@ -7,6 +7,7 @@ use mathlib.Core.Path.{◌≡◌, refl, sym, ap, ◌∙◌}
 use borrow.Author.Tests.{eqb-false}
 use native.Mathlib.Omega.{arith}
 use Rattle.std.specs.Prelude.{Option, Some, None, Result, Ok, Err, ⊤, IfOk, cond, eqb, ◌≤◌, ◌<◌}
+use Rattle.std.specs.Result.{result_unwrap_or}
 use Rattle.terms.specs.Reply.{Reply, accepted, number_of, reply_of, done_reply}
 use Rattle.terms.specs.declared.refusal.Refusal.{Refusal}
 use Rattle.terms.proofs.Answers.{number_not_0, refusal_named, done_named, value_named}
@@ -64,6 +65,10 @@ unfolding opened_state
 opened (Ok a) e = e
 opened (Err r) e = tt
 
+left : (a : Result State Refusal) (old : State) {s : State} → result_unwrap_or a old ≡ s → IfOk a (λ b. b ≡ s)
+left (Ok a) old e = e
+left (Err r) old e = tt
+
 module _ {A : Type 0} where
   three : (made : A → ℕ → Record → Changed A) {u v : A} {i j : ℕ} {r s : Record} → u ≡ v → i ≡ j → r ≡ s → made u i r ≡ made v j s
   three made e p q = cc
@@ -117,13 +122,13 @@ module _ {d : OpeningBy} {a b : Result State Refusal} where
   pub open_value_one : OpeningIs d a → OpeningIs d b → a ≡ b
   open_value_one p q = same (λ a. refl) state_one a b p.reply q.reply (opened a p.state) (opened b q.state)
 
-module _ {d : Reporting} {a b : Result State Refusal} where
-  pub report_value_one : ReportedIs d a → ReportedIs d b → a ≡ b
-  report_value_one p q = same (λ a. refl) state_one a b p.reply q.reply p.state_left q.state_left
+module _ {d : Reporting} {old : State} {a b : Result State Refusal} where
+  pub report_value_one : ReportedIs d old a → ReportedIs d old b → a ≡ b
+  report_value_one p q = same (λ a. refl) state_one a b p.reply q.reply (left a old p.state_left) (left b old q.state_left)
 
-module _ {d : Starting} {a b : Result State Refusal} where
-  pub start_value_one : StartedIs d a → StartedIs d b → a ≡ b
-  start_value_one p q = same (λ a. refl) state_one a b p.reply q.reply p.state_left q.state_left
+module _ {d : Starting} {old : State} {a b : Result State Refusal} where
+  pub start_value_one : StartedIs d old a → StartedIs d old b → a ≡ b
+  start_value_one p q = same (λ a. refl) state_one a b p.reply q.reply (left a old p.state_left) (left b old q.state_left)
 
 module _ {d : AdmissionBy} {a b : Result (Changed ℕ) Refusal} {v w : List ℕ} where
   pub admit_value_one : AdmissionIs d a v → AdmissionIs d b w → (a ≡ b) × (v ≡ w)

@@ -83,7 +83,6 @@ pub fn step(
 }
 
 // Marks a card out, or the array lost, where the state stands.
-#[tactic(auto, using(crate::proofs::BySurvey::report_kept))]
 pub fn report(state: &mut State, card: u64) -> Result<(), Refusal>
     ensures { ReportingIs (reporting state.old card) result state.new }
 {
@@ -92,7 +91,6 @@ pub fn report(state: &mut State, card: u64) -> Result<(), Refusal>
 }
 
 // Begins a fill of the fresh card in the sleeve that is out, where the state stands.
-#[tactic(auto, using(crate::proofs::BySurvey::start_kept))]
 pub fn start(state: &mut State) -> Result<(), Refusal>
     ensures { StartingIs (starting state.old) result state.new }
 {

@@ -14,4 +14,3 @@ pub mod States
 pub mod StateRows
 pub mod Asked
 pub mod Lengths
-pub mod Flags

@@ -1,6 +1,7 @@
 -- Document 02, Q-1: the start of a fill, and how the fill place moves on. A fresh card is in the sleeve of the one that is out.
 -- Assumes nothing.
-use Rattle.std.specs.Prelude.{ℕ, ◌+◌, cond, List, [], ◌∷◌, ◌++◌, ◌≡◌, ltb, eqb, Result, IfOk, ⊤}
+use Rattle.std.specs.Prelude.{ℕ, ◌+◌, cond, List, [], ◌∷◌, ◌++◌, ◌≡◌, ltb, eqb, Result, ⊤}
+use Rattle.std.specs.Result.{result_unwrap_or}
 use Rattle.terms.specs.Reply.{Reply, accepted, refused, Row, row, first_row, on_accept, done_reply}
 use Rattle.terms.specs.declared.refusal.Refusal.{Refusal}
 use Rattle.geometry.specs.Limits.{none, no_fill, under_way}
@@ -33,7 +34,8 @@ pub record StartingIs (d : Starting) (answer : Result ⊤ Refusal) (state : Stat
   pub reply : done_reply answer ≡ d.reply
   pub state_left : state ≡ d.state
 
--- what start answers of a state by value is what the paper says, and where it is accepted the state that it hands back is
-pub record StartedIs (d : Starting) (answer : Result State Refusal) : Type 0 where
+-- what start answers of a state by value is what the paper says, and so is the state that its caller has then: the one that it hands back, or the old
+-- one where it is refused
+pub record StartedIs (d : Starting) (old : State) (answer : Result State Refusal) : Type 0 where
   pub reply : state_reply answer ≡ d.reply
-  pub state_left : IfOk answer (λ state. state ≡ d.state)
+  pub state_left : result_unwrap_or answer old ≡ d.state

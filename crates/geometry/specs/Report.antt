@@ -1,6 +1,7 @@
 -- Document 01, "What the calls do", report: what it answers and the state that it leaves.
 -- Assumes nothing.
-use Rattle.std.specs.Prelude.{ℕ, cond, not, ◌&&◌, List, [], ◌∷◌, ◌++◌, ◌≡◌, leb, eqb, Result, IfOk, ⊤}
+use Rattle.std.specs.Prelude.{ℕ, cond, not, ◌&&◌, List, [], ◌∷◌, ◌++◌, ◌≡◌, leb, eqb, Result, ⊤}
+use Rattle.std.specs.Result.{result_unwrap_or}
 use Rattle.terms.specs.Reply.{Reply, accepted, refused, Row, row, first_row, on_accept, reply_of, done_reply}
 use Rattle.terms.specs.declared.refusal.Refusal.{Refusal}
 use Rattle.geometry.specs.Limits.{none, no_fill, under_way, beyond_state, is_lost, geometry_of, state_of}
@@ -53,7 +54,8 @@ pub record ReportingIs (d : Reporting) (answer : Result ⊤ Refusal) (state : St
 abbrev pub state_reply : Result State Refusal → Reply
 state_reply = reply_of (λ state. accepted 0 0)
 
--- what report answers of a state by value is what the paper says, and where it is accepted the state that it hands back is
-pub record ReportedIs (d : Reporting) (answer : Result State Refusal) : Type 0 where
+-- what report answers of a state by value is what the paper says, and so is the state that its caller has then: the one that it hands back, or the
+-- old one where it is refused
+pub record ReportedIs (d : Reporting) (old : State) (answer : Result State Refusal) : Type 0 where
   pub reply : state_reply answer ≡ d.reply
-  pub state_left : IfOk answer (λ state. state ≡ d.state)
+  pub state_left : result_unwrap_or answer old ≡ d.state

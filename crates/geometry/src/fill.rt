@@ -27,7 +27,7 @@ impl State {
     // Begins a fill: stripe 0 is to be filled first.
     #[tactic(auto, using(terms::proofs::Answers::left_refused), unfolding(crate::specs::Fill::starting))]
     pub fn start(self) -> Result<State, Refusal>
-        ensures { StartedIs (starting self) result }
+        ensures { StartedIs (starting self) self result }
     {
         self.may_start()?;
         Ok(State { fill: 0, ..self })

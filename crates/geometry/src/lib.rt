@@ -5,11 +5,11 @@
 pub use limits::{LEVEL_4, LEVEL_5, NO_FILL, NO_STRIPE, NONE, legal};
 pub use placement::{card_at, missing_at};
 
-pub mod fill;
+mod fill;
 mod limits;
 mod parts;
 mod placement;
-pub mod report;
+mod report;
 mod store;
 
 // The numbers an array is opened with: cards (N), stripes (S), bytes in a block (B), request records (K), and the layout (4 or 5).
@@ -24,7 +24,8 @@ pub struct Geometry {
 }
 
 // An open array: its geometry, the card that is out (255: none), the mark of a lost array (0: not lost), and the fill place, the stripe of the fresh
-// card in that sleeve that is filled next (65,535: no fill is under way).
+// card in that sleeve that is filled next (65,535: no fill is under way). (The geometry's numbers stand in it one by one: C lends it so,
+// `coppicetune_state`, and the clause of `recorder::coppicetune_scan` names them so.)
 #[repr(C)]
 #[derive(Clone, Copy, Debug, Default, PartialEq, Eq)]
 pub struct State {

@@ -6,7 +6,8 @@ ghost use Rattle.geometry.specs.Limits.{legal, legal_layout, beyond, geometry_of
 
 use crate::{Geometry, State};
 
-// The layouts, by their numbers: parity on the last card, and parity rotated.
+// The layouts, by their numbers: parity on the last card, and parity rotated. (A layout is a number and no enum: C gives it, and placement answers
+// for any number, docs/DECISIONS.md, 48.)
 pub const LEVEL_4: u64 = 4;
 
 pub const LEVEL_5: u64 = 5;
@@ -17,10 +18,10 @@ pub const NONE: u64 = 255;
 // The number that says that no fill is under way; C reads and writes it too.
 pub const NO_FILL: u64 = 65535;
 
-// A number that is no stripe's.
+// A number that is no stripe's. (No Option: `survey_of`, `held_in` and `among` are of numbers, of which this one is no stripe's.)
 pub const NO_STRIPE: u64 = 1024;
 
-// Whether N, S, B and K are within their limits.
+// Whether N, S, B and K are within their limits. (Four numbers, as the definition `legal` has them.)
 #[tactic(auto, unfolding(crate::specs::Limits::legal, terms::specs::Sets::within))]
 pub fn legal(cards: u64, stripes: u64, block: u64, records: u64) -> bool
     ensures { result ≡ legal cards stripes block records }

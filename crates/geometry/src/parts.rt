@@ -1,5 +1,5 @@
-// A block handed on as a part of the image that starts in its middle; the empty part where there is no such block, or where the image is
-// of another length.
+// A block handed on as a part of the image that starts in its middle; the empty part, as `cell_part` says, where there is no such block, or where the
+// image is of another length.
 // Assumes nothing.
 ghost use Rattle.std.specs.Prelude.{◌≡◌};
 ghost use Rattle.geometry.specs.Asked.{cell_part};

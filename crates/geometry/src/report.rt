@@ -59,7 +59,7 @@ impl State {
     // Marks a card out, or the array lost.
     #[tactic(auto, using(terms::proofs::Answers::left_refused), unfolding(crate::specs::Report::reporting))]
     pub fn report(self, card: u64) -> Result<State, Refusal>
-        ensures { ReportedIs (reporting self card) result }
+        ensures { ReportedIs (reporting self card) self result }
     {
         self.may_report(card)?;
         Ok(self.marked(card))

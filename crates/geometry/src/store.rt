@@ -7,7 +7,7 @@ ghost use Rattle.geometry.specs.Asked.{image_size_in, cell_in};
 
 use crate::{State, legal};
 
-// Where a block starts that stands in this column of this row, in rows of so many blocks.
+// Where a block starts that stands in this column of this row, in rows of so many blocks. (Array has one of its own, in its `places`, which says why.)
 #[tactic(auto, using(crate::proofs::Bounds::offset_fits))]
 fn offset(row: u64, width: u64, column: u64, block: u64) -> usize
     requires { (row ≤ 8) × (width ≤ 1024) × (column ≤ 1024) × (block ≤ 512) }

@@ -36,7 +36,7 @@ pub enum Refusal {
 }
 
 impl Refusal {
-    // The paper's number.
+    // The paper's number. (A match: one case has values, so an enum's own numbers don't serve.)
     pub fn number(self) -> u64
         ensures { result ≡ number_of self }
     {
@@ -53,7 +53,7 @@ impl Refusal {
             Refusal::WrongPhase => 10,
             Refusal::StepNotReady => 11,
             Refusal::CardOut => 12,
-            Refusal::ParityDisagrees { stripe: _, byte: _ } => 13,
+            Refusal::ParityDisagrees { .. } => 13,
             Refusal::NoFill => 14,
             Refusal::FillUnderWay => 15,
         }
@@ -77,7 +77,7 @@ impl fmt::Display for Refusal {
             Refusal::WrongPhase => "the record is not open, or not finished",
             Refusal::StepNotReady => "that step is not ready",
             Refusal::CardOut => "a card is out",
-            Refusal::ParityDisagrees { stripe: _, byte: _ } => "parity disagrees",
+            Refusal::ParityDisagrees { .. } => "parity disagrees",
             Refusal::NoFill => "no card is out, or no fill is begun",
             Refusal::FillUnderWay => "a fill is under way",
         })
