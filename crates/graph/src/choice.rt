@@ -1,4 +1,4 @@
-// Which graph a request takes.
+// Which graph a request takes. (By numbers one by one: they are asked before there is a plan.)
 ghost use Rattle.std.specs.Prelude.{◌≡◌};
 ghost use Rattle.graph.specs.Choice.{unit_out_in, all_units, choose_read, choose_write, choose};
 ghost use Rattle.graph.specs.Named.{number_of_graph};
@@ -26,18 +26,20 @@ fn unit_out_in(n: u64, mask: u64, x: u64) -> bool
     x < n && has(x, mask)
 }
 
+// The graph of a read.
 #[tactic(auto, unfolding(crate::specs::Choice::choose_read, terms::specs::Reply::first_row))]
 fn choose_read(n: u64, mask: u64, x: u64) -> Graph
     ensures { number_of_graph result ≡ choose_read n mask x }
 {
     if unit_out_in(n, mask, x) {
-        return Graph::DegradedRead;
+        Graph::DegradedRead
+    } else {
+        Graph::PlainRead
     }
-    Graph::PlainRead
 }
 
-// The tests in the paper's order, one for each row of its table, so that two rows give one graph; the count of ones decides small
-// against reconstruct write.
+// The graph of a write: the tests in the paper's order, one for each row of its table, so that two rows give one graph; the count of
+// ones decides small against reconstruct write.
 #[tactic(auto, unfolding(crate::specs::Choice::choose_write, crate::specs::Choice::unit_out, terms::specs::Reply::first_row))]
 fn choose_write(n: u64, mask: u64, x: u64) -> Graph
     ensures { number_of_graph result ≡ choose_write n mask x }

@@ -1,5 +1,6 @@
-// The graphs: which one a request takes, its steps, and what must come before each. Everything here is on numbers: n, the units of
-// a stripe; the mask; x, the position missing (above n: none); g, the graph's number; done, the done steps; k, a step's number.
+// The graphs: which one a request takes, its steps, and what must come before each. n is the units of a stripe; x, the position missing
+// (above n: none); g, the graph's number; done, the done steps; k, a step's number. A graph's number, the mask and the done steps may be
+// any numbers.
 // Assumes nothing.
 #![tactic(auto)]
 

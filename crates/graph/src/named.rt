@@ -5,10 +5,10 @@ ghost use Rattle.graph.specs.Named.{number_of_graph, name_of_graph, Numbered};
 use std::error::Error;
 use std::fmt;
 
-/// How a request is carried out: which of its stripe's units are read, and which are written.
+// How a request is carried out: which of its stripe's units are read, and which are written.
 #[derive(Clone, Copy, Debug, PartialEq, Eq)]
 pub enum Graph {
-    PlainRead,
+    PlainRead = 1,
     DegradedRead,
     SmallWrite,
     ReconstructWrite,
@@ -21,18 +21,11 @@ impl Graph {
     pub fn number(self) -> u64
         ensures { result ≡ number_of_graph self }
     {
-        match self {
-            Graph::PlainRead => 1,
-            Graph::DegradedRead => 2,
-            Graph::SmallWrite => 3,
-            Graph::ReconstructWrite => 4,
-            Graph::LargeWrite => 5,
-            Graph::ParityFailed => 6,
-        }
+        self as u64
     }
 }
 
-/// A number that is no graph's.
+// A number that is no graph's.
 #[derive(Clone, Copy, Debug, PartialEq, Eq)]
 pub struct UnknownGraph(pub u64);
 

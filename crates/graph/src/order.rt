@@ -27,7 +27,7 @@ fn needed_to_write(n: u64, g: u64, reading: u64, p: u64) -> u64
     }
 }
 
-// What must come before a step, by the positions that the graph reads.
+// What must come before a step, by the positions that the graph reads. (A match and no closures: the kinds of step are three for good.)
 #[tactic(auto, unfolding(crate::specs::Asked::needed_by, crate::specs::Asked::action_step))]
 fn needed(n: u64, g: u64, reading: u64, action: Option<Action>) -> u64
     requires { n ≤ 7 }

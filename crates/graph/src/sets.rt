@@ -24,13 +24,28 @@ pub(crate) struct Sets {
     pub(crate) steps: u64,
 }
 
+// The positions that are to be read and to be written, the missing one among them, and the exclusive or as a set of steps.
+#[derive(Clone, Copy)]
+struct Bases {
+    reads: u64,
+    writes: u64,
+    sum: u64,
+}
+
 impl Few {
+    // The masked units.
+    fn masked(self) -> u64
+        ensures { result ≡ set_of (self.plan.units + 1) (masked self.plan.units self.plan.mask) }
+    {
+        masked_set(self.plan.units, self.plan.mask)
+    }
+
     // The units outside the mask.
     #[tactic(auto, using(crate::proofs::Positions::masked_bound, crate::proofs::Positions::unmasked_is))]
     fn unmasked_set(self) -> u64
         ensures { result ≡ set_of (self.plan.units + 1) (unmasked self.plan.units self.plan.mask) }
     {
-        below(self.plan.units) - masked_set(self.plan.units, self.plan.mask)
+        below(self.plan.units) - self.masked()
     }
 
     // The masked units and parity.
@@ -38,7 +53,7 @@ impl Few {
     fn masked_and_parity(self) -> u64
         ensures { result ≡ set_of (self.plan.units + 1) (λ p. masked self.plan.units self.plan.mask p || eqb p self.plan.units) }
     {
-        masked_set(self.plan.units, self.plan.mask) + only(self.plan.units)
+        self.masked() + only(self.plan.units)
     }
 
     // Every position but the missing one.
@@ -54,25 +69,25 @@ impl Few {
         }
     }
 
-    // The positions that are to be read and to be written, the missing one among them, and the exclusive or as a set of steps.
-    // One match finds all three: a match for each costs `judge` 17 % more instructions.
+    // What the graph's sets are made of. One match finds all three: a match for each costs `judge` 17 % more instructions.
     #[tactic(auto, using(crate::proofs::BySets::read_sets, crate::proofs::BySets::write_sets), unfolding(crate::specs::Steps::by_graph, crate::specs::Steps::sums))]
-    fn bases(self) -> (u64, u64, u64)
-        ensures reads { result.0 ≡ set_of (self.plan.units + 1) (read_base self.plan.units self.plan.graph self.plan.mask) }
-        ensures writes { result.1 ≡ set_of (self.plan.units + 1) (write_base self.plan.units self.plan.graph self.plan.mask) }
-        ensures sum { result.2 ≡ cond (sums self.plan.graph) (2 ^ (self.plan.units + 1)) 0 }
+    fn bases(self) -> Bases
+        ensures reads { result.reads ≡ set_of (self.plan.units + 1) (read_base self.plan.units self.plan.graph self.plan.mask) }
+        ensures writes { result.writes ≡ set_of (self.plan.units + 1) (write_base self.plan.units self.plan.graph self.plan.mask) }
+        ensures sum { result.sum ≡ cond (sums self.plan.graph) (2 ^ (self.plan.units + 1)) 0 }
     {
         let n = self.plan.units;
         let sum = only(n + 1);
-        match Graph::try_from(self.plan.graph) {
-            Ok(Graph::PlainRead) => (masked_set(self.plan.units, self.plan.mask), 0, 0),
+        let (reads, writes, sum) = match Graph::try_from(self.plan.graph) {
+            Ok(Graph::PlainRead) => (self.masked(), 0, 0),
             Ok(Graph::DegradedRead) => (below(n + 1), 0, sum),
             Ok(Graph::SmallWrite) => (self.masked_and_parity(), self.masked_and_parity(), sum),
             Ok(Graph::ReconstructWrite) => (self.unmasked_set(), self.masked_and_parity(), sum),
             Ok(Graph::LargeWrite) => (0, self.masked_and_parity(), sum),
-            Ok(Graph::ParityFailed) => (0, masked_set(self.plan.units, self.plan.mask), 0),
+            Ok(Graph::ParityFailed) => (0, self.masked(), 0),
             Err(_) => (0, 0, 0),
-        }
+        };
+        Bases { reads, writes, sum }
     }
 
     // The positions that the graph reads, and its steps: the writes' numbers are above the exclusive or's, and that above the reads'.
@@ -81,10 +96,10 @@ impl Few {
         ensures steps { result.steps ≡ step_set self.plan.units self.plan.graph self.plan.mask self.plan.missing }
     {
         let present = self.present();
-        let (to_read, to_write, sum) = self.bases();
-        let reads = to_read & present;
-        let writes = to_write & present;
-        let low = reads + sum;
+        let bases = self.bases();
+        let reads = bases.reads & present;
+        let writes = bases.writes & present;
+        let low = reads + bases.sum;
         let steps = (writes << (self.plan.units + 2)) + low;
         Sets { reads, steps }
     }

@@ -16,15 +16,10 @@ pub enum Action {
 pub fn step_of(n: u64, k: u64) -> Option<Action>
     ensures { action_step result ≡ step_of n k }
 {
-    if k <= n {
-        return Some(Action::Read(k));
+    match k.checked_sub(n) {
+        None | Some(0) => Some(Action::Read(k)),
+        Some(1) => Some(Action::Sum),
+        Some(past) if past - 2 <= n => Some(Action::Write(past - 2)),
+        Some(_) => None,
     }
-    let past = k - n - 1;
-    if past == 0 {
-        return Some(Action::Sum);
-    }
-    if past - 1 <= n {
-        return Some(Action::Write(past - 1));
-    }
-    None
 }

@@ -48,7 +48,7 @@ fn record(numbers: &[u64], i: usize) -> Record
     }
 }
 
-// What one look at the table of all whole records finds.
+// What one look at the table of all whole records finds. (By number and no `chunks_exact`: `record_from` reads a record by its number.)
 fn survey(numbers: &[u64], all: &[u64]) -> Survey
     ensures { result ≡ survey_from numbers.now all.now }
 {

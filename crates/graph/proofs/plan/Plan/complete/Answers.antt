@@ -1,16 +1,8 @@
--- `complete` meets its contract: the steps are a subset of the done ones.
+-- `complete` meets its contract: what it is for few units.
 -- Assumes nothing.
-use Prim.Native.Nat.{ℕ}
-use mathlib.Core.Path.{◌∙◌, ap}
-use Rattle.graph.specs.Asked.{part_of}
-use Rattle.graph.proofs.Forerunners.{complete_test}
+use Rattle.std.proofs.Common.{rules}
+use Rattle.graph.proofs.Few.{when_few}
 use Rattle.graph.proofs.plan.Plan.complete.Goals as goal
 
 pub returns : goal.returns
-returns c =
-    let few = c.in-Some.ensures in
-    let p = c.in-Some.few.plan in
-    rw (few.0, ← few.1)
-    (c.part_of.ensures
-    ∙ ap (λ (s : ℕ). part_of s c.args.done) c.sets.ensures.steps
-    ∙ complete_test p.units p.graph p.mask p.missing c.args.done)
+returns c = when_few _ c.args.self _ _ _ c.few.ensures c.is_some_and.ensures (λ few e q. search rules)

@@ -13,7 +13,9 @@ same v w a b c d = λ i. record { right = a i; whole = b i; steps = c i; reads =
 
 pub returns-in_default : goal.returns-in_default
 unfolding judged
-returns-in_default c = rw c.in_default.ensures
+returns-in_default c =
+    let d = c.default.ensures in
+    rw c.in_default.ensures (same _ _ d.0 d.1.0 d.1.1.0 d.1.1.1)
 
 pub returns : goal.returns
 returns c =

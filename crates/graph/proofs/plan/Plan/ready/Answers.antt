@@ -1,17 +1,8 @@
--- `ready` meets its contract: by the graph's steps and reads.
+-- `ready` meets its contract: what it is for few units.
 -- Assumes nothing.
-use mathlib.Core.Bool.{◌&&◌}
-use mathlib.Core.Path.{◌∙◌, ap}
-use Rattle.graph.specs.Asked.{few_units, action_step}
-use Rattle.graph.proofs.Forerunners.{ready_of}
+use Rattle.std.proofs.Common.{rules}
+use Rattle.graph.proofs.Few.{when_few}
 use Rattle.graph.proofs.plan.Plan.ready.Goals as goal
 
 pub returns : goal.returns
-returns c =
-    let few = c.in-Some.ensures in
-    let p = c.in-Some.few.plan in
-    rw (← few.1)
-    ((rw (← few.1) at c.ready_by.ensures)
-    ∙ ap (◌&&◌ (few_units p.units))
-    (ready_of p.units p.graph p.mask p.missing c.args.done c.args.k _ _ (action_step c.step_of-action.result)
-    c.sets-reads.ensures.steps c.sets-reads.ensures.reads (rw (← few.1) at c.step_of-action.ensures)))
+returns c = when_few _ c.args.self _ _ _ c.few.ensures c.is_some_and.ensures (λ few e q. search rules)
