@@ -19,7 +19,7 @@ ghost use Rattle.geometry.specs.Report.{ReportingIs, reporting};
 use array::answers::{Changed, Stepped};
 use geometry::{Geometry, State};
 use record::Record;
-use table::{at, count, freed, replace, surveyed};
+use table::{NO_PLACE, at, count, freed, replace, surveyed};
 use terms::Refusal;
 
 // Puts the record that a call changed in its place, and hands on what the call answers.
@@ -60,7 +60,7 @@ pub fn admit(
 ) -> Result<u64, Refusal>
     ensures { AdmissionLent (admission state table.old work.old image.now write stripe mask payload.now) result table.new work.new }
 {
-    let survey = surveyed(table, state, 8);
+    let survey = surveyed(table, state, NO_PLACE);
     let changed = array::admit_by(state, survey, work, image, write, stripe, mask, payload)?;
     Ok(put(table, changed))
 }
@@ -119,7 +119,7 @@ pub fn collect(
 pub fn scan(state: State, table: &[Record], image: &[u8]) -> Result<(), Refusal>
     ensures { done_reply result ≡ scan_reply state table.now image.now }
 {
-    let survey = surveyed(table, state, 8);
+    let survey = surveyed(table, state, NO_PLACE);
     array::scan_by(state, survey, image)
 }
 
@@ -129,7 +129,7 @@ pub fn rebuild(state: &mut State, table: &[Record], image: &mut [u8]) -> Result<
     ensures { RebuildingLent (rebuilding state.old table.now image.old) result state.new image.new }
 {
     let old = *state;
-    let survey = surveyed(table, old, 8);
+    let survey = surveyed(table, old, NO_PLACE);
     let filled = array::rebuild_next(old, survey, image)?;
     *state = filled.state;
     array::rebuild_image(old, filled.stripe, image);

@@ -11,7 +11,8 @@ mod phase;
 mod sound;
 mod surveys;
 
-// A request record. A free one is all zero.
+// A request record. A free one is all zero. (Numbers, and no enums or Option: C lends it as `coppicetune_record`, and any number can stand there.
+// `is_sound` says which are right.)
 #[repr(C)]
 #[derive(Clone, Copy, PartialEq, Eq, Default, Debug)]
 pub struct Record {
@@ -32,7 +33,8 @@ pub struct Record {
 }
 
 // What one look at a table finds: how many records it has, whether it is sound, the stripe that each of up to eight holds (or a number
-// that is no stripe's), and the lowest free record (its length where none is free).
+// that is no stripe's), and the lowest free record (its length where none is free). (Flat, here and in Look, with a number for none: the definitions
+// `survey_of` and `look_of`, and those of every call, are of these fields; docs/DECISIONS.md, 27 and 28.)
 #[derive(Clone, Copy, PartialEq, Eq, Debug)]
 pub struct Survey {
     pub len: u64,

@@ -54,17 +54,24 @@ impl Record {
         geometry::missing_at(state.cards, state.layout, self.stripe, self.chosen)
     }
 
+    // Its graph in a stripe of so many units, chosen with this position missing.
+    pub(crate) fn plan(self, units: u64, missing: u64) -> graph::Plan
+        ensures { result ≡ record { units = units; graph = self.graph; mask = self.mask; missing = missing } }
+    {
+        graph::Plan {
+            units,
+            graph: self.graph,
+            mask: self.mask,
+            missing,
+        }
+    }
+
     // Step k is ready.
     #[tactic(auto, unfolding(crate::specs::Asked::ready_in))]
     pub fn is_ready(self, state: State, k: u64) -> bool
         ensures { result ≡ ready_in state self k }
     {
-        let plan = graph::Plan {
-            units: units(state),
-            graph: self.graph,
-            mask: self.mask,
-            missing: self.chosen_at(state),
-        };
+        let plan = self.plan(units(state), self.chosen_at(state));
         plan.ready(self.done, k)
     }
 

@@ -5,12 +5,12 @@ ghost use Rattle.record.specs.Phase.{number_of};
 
 use crate::Record;
 
-// A record is free, or of a request that is open or finished.
+// A record is free, or of a request that is open or finished. (No TryFrom: nothing asks which phase a number is, only whether it is one.)
 #[derive(Clone, Copy, PartialEq, Eq, Debug)]
 pub enum Phase {
-    Free,
-    Open,
-    Finished,
+    Free = 0,
+    Open = 1,
+    Finished = 2,
 }
 
 impl Phase {
@@ -18,16 +18,12 @@ impl Phase {
     pub fn number(self) -> u64
         ensures { result ≡ number_of self }
     {
-        match self {
-            Phase::Free => 0,
-            Phase::Open => 1,
-            Phase::Finished => 2,
-        }
+        self as u64
     }
 }
 
 impl Record {
-    // The record is free.
+    // The record is free. (A function for each phase, as the definitions `is_free`, `is_open` and `is_finished` are.)
     pub fn is_free(self) -> bool
         ensures { result ≡ is_free self }
     {

@@ -55,8 +55,7 @@ impl Record {
             && self.write <= 1
             && self.stripe < stripes
             && legal_mask(units_of(cards), self.mask)
-            && 1 <= self.graph
-            && self.graph <= 6
+            && (1..=6).contains(&self.graph)
     }
 
     // Its chosen-with card is 255; or, of an open one, the card that is missing in its stripe now, and of a finished one any card.
@@ -107,13 +106,7 @@ impl Record {
         if self.graph != right {
             return nothing(false);
         }
-        let plan = graph::Plan {
-            units: n,
-            graph: self.graph,
-            mask: self.mask,
-            missing: x,
-        };
-        let judged = plan.judge(self.done);
+        let judged = self.plan(n, x).judge(self.done);
         if !judged.right || !self.right_count(n, judged.whole) {
             return nothing(false);
         }
@@ -127,17 +120,11 @@ impl Record {
     }
 
     // The record is sound.
-    #[tactic(auto, using(crate::proofs::Looks::busy_sound, crate::proofs::Looks::busy_by), unfolding(crate::specs::Asked::sound_record_in, crate::specs::Sound::sound_record))]
+    #[tactic(auto, using(crate::proofs::Looks::look_sound))]
     pub fn is_sound(self, state: State) -> bool
         ensures { result ≡ sound_record_in state self }
     {
-        if self.is_free() {
-            return self.free_sound(state);
-        }
-        let now = state.out_in(self.stripe);
-        let x = self.chosen_at(state);
-        let look = self.looked(state.cards, state.stripes, state.layout, now, x, 0);
-        look.sound
+        self.look(state).sound
     }
 
     // The position of the card that is missing now, where x is that of the one at the choice.

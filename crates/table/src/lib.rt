@@ -9,6 +9,9 @@ ghost use Rattle.record.specs.Survey.{survey_but};
 use geometry::State;
 use record::{Record, Survey};
 
+// A number that is no place of a table that is looked at: a survey that leaves it out leaves no record out. (No Option: `survey_but` is of numbers.)
+pub const NO_PLACE: u64 = 8;
+
 // How many records the table has.
 pub fn count(table: &[Record]) -> u64
     ensures { result ≡ length table.now }
@@ -33,7 +36,7 @@ pub fn replace(table: &mut [Record], i: u64, r: Record)
     }
 }
 
-// What one look at the rest of the table finds, with a record left out: at a place from 8 on, none is.
+// What one look at the rest of the table finds, with a record left out; with none, where that is NO_PLACE.
 #[tactic(auto, using(record::proofs::Rest::seen_rest, record::proofs::Surveyed::survey_is, record::proofs::Surveyed::to_see_most), unfolding(record::specs::Seen::seen_to))]
 pub fn surveyed(table: &[Record], state: State, but: u64) -> Survey
     ensures { result ≡ survey_but state table.now but }
@@ -47,7 +50,7 @@ pub fn surveyed(table: &[Record], state: State, but: u64) -> Survey
     survey
 }
 
-// Every record is freed, where that is asked.
+// Every record is freed, where that is asked. (By a yes or no, so that open has no branch: docs/DECISIONS.md, 26.)
 pub fn freed(table: &mut [Record], asked: bool)
     ensures { table.new ≡ cond asked (replicate (length table.old) free) table.old }
 {
