@@ -65,9 +65,9 @@ impl Few {
     {
         let n = self.plan.units;
         let written = (done >> (n + 2)) & below(n);
-        match Graph::try_from(self.plan.graph) {
-            Ok(Graph::SmallWrite) => part_of(written, done),
-            Ok(Graph::ReconstructWrite) => written == 0 || part_of(reading, done),
+        match self.graph {
+            Some(Graph::SmallWrite) => part_of(written, done),
+            Some(Graph::ReconstructWrite) => written == 0 || part_of(reading, done),
             _ => true,
         }
     }

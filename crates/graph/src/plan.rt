@@ -4,6 +4,7 @@ ghost use Rattle.graph.specs.Asked.{few_units, judged};
 ghost use Rattle.graph.specs.Order.{ready, complete};
 
 use crate::bits::part_of;
+use crate::named::Graph;
 use crate::order::ready_by;
 use crate::sets::Sets;
 use crate::steps::step_of;
@@ -57,7 +58,8 @@ impl Plan {
         if self.units > 7 {
             return None;
         }
-        Some(Few { plan: self })
+        let graph = Graph::try_from(self.graph).ok();
+        Some(Few { plan: self, graph })
     }
 
     // Step k is ready: in the graph, not done, and lacks none that must come before.

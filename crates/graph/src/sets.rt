@@ -78,14 +78,14 @@ impl Few {
     {
         let n = self.plan.units;
         let sum = only(n + 1);
-        let (reads, writes, sum) = match Graph::try_from(self.plan.graph) {
-            Ok(Graph::PlainRead) => (self.masked(), 0, 0),
-            Ok(Graph::DegradedRead) => (below(n + 1), 0, sum),
-            Ok(Graph::SmallWrite) => (self.masked_and_parity(), self.masked_and_parity(), sum),
-            Ok(Graph::ReconstructWrite) => (self.unmasked_set(), self.masked_and_parity(), sum),
-            Ok(Graph::LargeWrite) => (0, self.masked_and_parity(), sum),
-            Ok(Graph::ParityFailed) => (0, self.masked(), 0),
-            Err(_) => (0, 0, 0),
+        let (reads, writes, sum) = match self.graph {
+            Some(Graph::PlainRead) => (self.masked(), 0, 0),
+            Some(Graph::DegradedRead) => (below(n + 1), 0, sum),
+            Some(Graph::SmallWrite) => (self.masked_and_parity(), self.masked_and_parity(), sum),
+            Some(Graph::ReconstructWrite) => (self.unmasked_set(), self.masked_and_parity(), sum),
+            Some(Graph::LargeWrite) => (0, self.masked_and_parity(), sum),
+            Some(Graph::ParityFailed) => (0, self.masked(), 0),
+            None => (0, 0, 0),
         };
         Bases { reads, writes, sum }
     }
