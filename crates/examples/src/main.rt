@@ -2,18 +2,26 @@
 // N = 5 and S = 5 unless said.
 #![tactic(auto)]
 
-use geometry::{Geometry, LEVEL_5, NONE};
+use geometry::{Geometry, LEVEL_5, NONE, Placed};
 use record::Record;
 use std::{fmt, io};
 use terms::Refusal;
 
-// That a call was refused, by the paper's number.
+// What came out: where a block is, a graph by its number, or that the call was accepted.
 #[derive(Clone, Copy)]
-struct Refused(Refusal);
+enum Said {
+    At(Placed),
+    Graph(u64),
+    Accepted,
+}
 
-impl fmt::Display for Refused {
+impl fmt::Display for Said {
     fn fmt<W: fmt::Write>(&self, f: &mut fmt::Formatter<W>) -> fmt::Result {
-        write!(f, "refused by {}", self.0.number())
+        match *self {
+            Said::At(place) => write!(f, "card {}, stripe {}", place.card, place.stripe),
+            Said::Graph(number) => write!(f, "graph {number}"),
+            Said::Accepted => f.write_str("accepted"),
+        }
     }
 }
 
@@ -28,26 +36,16 @@ fn shape(cards: u64, stripes: u64, block: u64) -> Geometry {
     }
 }
 
-// Tells where a block is.
-fn tell_block(rt: &impl Print, block: u64) -> io::Result<()> {
-    match shape(5, 5, 16).place(block) {
-        Ok(place) => println!(rt;
-            "block {block}: card {}, stripe {}",
-            place.card, place.stripe
-        ),
-        Err(refusal) => println!(rt; "block {block}: {}", Refused(refusal)),
-    }
+// Where a block is.
+fn place(block: u64) -> Result<Said, Refusal> {
+    shape(5, 5, 16).place(block).map(Said::At)
 }
 
-// Tells how an array of this geometry opens, lent what is right for 5 cards, 5 stripes and blocks of 16 bytes.
-fn tell_open(rt: &impl Print, name: &str, geometry: Geometry) -> io::Result<()> {
+// How an array of this geometry opens, lent what is right for 5 cards, 5 stripes and blocks of 16 bytes.
+fn open(geometry: Geometry) -> Result<Said, Refusal> {
     let mut records = [record::free()];
-    let work = [0u8; 160];
-    let image = [0u8; 400];
-    match calls::open(geometry, NONE, &mut records, &work, &image) {
-        Ok(_) => println!(rt; "{name}: accepted"),
-        Err(refusal) => println!(rt; "{name}: {}", Refused(refusal)),
-    }
+    calls::open(geometry, NONE, &mut records, &[0u8; 160], &[0u8; 400])?;
+    Ok(Said::Accepted)
 }
 
 // The record of a request of stripe 0, on an array of zeros with a card out or none.
@@ -69,36 +67,44 @@ fn ask(out: u64, write: bool, mask: u64, payload: &[u8]) -> Result<Record, Refus
     Ok(records[0])
 }
 
-// Tells the graph of a write of all four units.
-fn tell_graph(rt: &impl Print, name: &str, out: u64) -> io::Result<()> {
-    match ask(out, true, 15, &[0u8; 64]) {
-        Ok(record) => println!(rt; "{name}: graph {}", record.graph),
-        Err(refusal) => println!(rt; "{name}: {}", Refused(refusal)),
-    }
+// The graph of a write of all four units.
+fn graph(out: u64) -> Result<Said, Refusal> {
+    let record = ask(out, true, 15, &[0u8; 64])?;
+    Ok(Said::Graph(record.graph))
 }
 
-// Tells whether a read of a mask is admitted.
-fn tell_mask(rt: &impl Print, mask: u64) -> io::Result<()> {
-    match ask(NONE, false, mask, b"") {
-        Ok(_) => println!(rt; "mask {mask}: accepted"),
-        Err(refusal) => println!(rt; "mask {mask}: {}", Refused(refusal)),
+// Whether a read of a mask is admitted.
+fn read(mask: u64) -> Result<Said, Refusal> {
+    ask(NONE, false, mask, b"")?;
+    Ok(Said::Accepted)
+}
+
+// Tells what came out of an example, and of a refusal the paper's number.
+fn tell(rt: &impl Print, name: &str, answer: Result<Said, Refusal>) -> io::Result<()> {
+    match answer {
+        Ok(said) => println!(rt; "{name}: {said}"),
+        Err(refusal) => println!(rt; "{name}: refused by {}", refusal.number()),
     }
 }
 
 // Tells every example.
 fn tell_all(rt: &impl Print) -> io::Result<()> {
-    tell_block(rt, 19)?;
-    tell_block(rt, 20)?;
-    tell_graph(rt, "none out, m=4", NONE)?;
-    tell_graph(rt, "parity out, m=4", geometry::card_at(5, LEVEL_5, 0, 4))?;
-    tell_open(rt, "N=2", shape(2, 5, 16))?;
-    tell_open(rt, "N=9", shape(9, 5, 16))?;
-    tell_open(rt, "B=24", shape(5, 5, 24))?;
-    tell_open(rt, "S=0", shape(5, 0, 16))?;
-    tell_open(rt, "S=1025", shape(5, 1025, 16))?;
-    tell_mask(rt, 0)?;
-    tell_mask(rt, 16)?;
-    tell_mask(rt, 15)
+    tell(rt, "block 19", place(19))?;
+    tell(rt, "block 20", place(20))?;
+    tell(rt, "none out, m=4", graph(NONE))?;
+    tell(
+        rt,
+        "parity out, m=4",
+        graph(geometry::card_at(5, LEVEL_5, 0, 4)),
+    )?;
+    tell(rt, "N=2", open(shape(2, 5, 16)))?;
+    tell(rt, "N=9", open(shape(9, 5, 16)))?;
+    tell(rt, "B=24", open(shape(5, 5, 24)))?;
+    tell(rt, "S=0", open(shape(5, 0, 16)))?;
+    tell(rt, "S=1025", open(shape(5, 1025, 16)))?;
+    tell(rt, "mask 0", read(0))?;
+    tell(rt, "mask 16", read(16))?;
+    tell(rt, "mask 15", read(15))
 }
 
 // A write that fails ends the telling and not the program, which ends as it does where all is told.

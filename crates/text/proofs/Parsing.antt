@@ -24,8 +24,8 @@ split_last t x h e =
     sym (take-length t) ∙ ap (λ (k : ℕ). take k t) (sym one) ∙ take-suc t (length t - 1) 0 (omega arith) ∙ rw e
 
 -- a list whose second and last elements are known
-split_ends : (l : List ℕ) (x y : ℕ) → 4 ≤ length l → get_or l 1 0 ≡ x → get_or l (length l - 1) 0 ≡ y
-    → l ≡ take 1 l ++ (x ∷ take (length l - 1 - 2) (drop 2 l) ++ (y ∷ []))
+split_ends : (l : List ℕ) (x y : ℕ) → 3 ≤ length l → get_or l 1 0 ≡ x → get_or l (length l - 1) 0 ≡ y
+    → l ≡ (get_or l 0 0 ∷ []) ++ (x ∷ take (length l - 1 - 2) (drop 2 l) ++ (y ∷ []))
 split_ends [] x y h s n = absurd (omega arith)
 split_ends (a ∷ []) x y h s n = absurd (omega arith)
 split_ends (a ∷ b ∷ t) x y h s n =
@@ -43,7 +43,7 @@ module _ (l : List ℕ) where
   record Known (N S : ℕ) : Type 0 where
     size : 4 ≤ length l
     most : length l ≤ 7
-    first : take 1 l ≡ decimal N
+    first : get_or l 0 0 ∷ [] ≡ decimal N
     second : get_or l 1 0 ≡ space
     between : middle ≡ decimal S
     last : get_or l (length l - 1) 0 ≡ newline
@@ -60,7 +60,7 @@ module _ (l : List ℕ) where
       record {
         size = omega (arith, decimal_length_pos S (omega arith));
         most = omega (arith, decimal_length S (omega arith));
-        first = ap (take 1) bytes ∙ sym (decimal_small N (omega arith));
+        first = ap (λ (x : List ℕ). get_or x 0 0 ∷ []) bytes ∙ sym (decimal_small N (omega arith));
         second = ap (λ (x : List ℕ). get_or x 1 0) bytes;
         between = rw (inner, bytes) (take_at (decimal S) (newline ∷ []) (length (decimal S)) refl);
         last = rw (before, bytes) (get_or_at (digit N ∷ space ∷ decimal S) newline [] 0 (length (digit N ∷ space ∷ decimal S)) refl);
@@ -71,7 +71,7 @@ module _ (l : List ℕ) where
   pub bad_long : 7 < length l → asked l ≡ None
   bad_long h = asked_none l λ N S a. let k = known N S a in omega arith
 
-  pub bad_short : length l < 4 → asked l ≡ None
+  pub bad_short : length l < 3 → asked l ≡ None
   bad_short h = asked_none l λ N S a. let k = known N S a in omega arith
 
   pub bad_space : ¬ (get_or l 1 0 ≡ space) → asked l ≡ None
@@ -81,19 +81,19 @@ module _ (l : List ℕ) where
   bad_end h = asked_none l λ N S a. h (known N S a).last
 
   -- what is read of the two parts where it asks for a shape
-  cards_read : {a : Option ℕ} → Reads (take 1 l) a → (N S : ℕ) → asks_for l N S ≡ true → a ≡ Some N
+  cards_read : {a : Option ℕ} → Reads (get_or l 0 0 ∷ []) a → (N S : ℕ) → asks_for l N S ≡ true → a ≡ Some N
   cards_read n N S h = let k = known N S h in let b = places_bounds N S 5 k.legal in n.only N (omega arith) (omega arith) k.first
 
   stripes_read : {a : Option ℕ} → Reads middle a → (N S : ℕ) → asks_for l N S ≡ true → a ≡ Some S
   stripes_read s N S h = let k = known N S h in let b = places_bounds N S 5 k.legal in s.only S (omega arith) (omega arith) k.between
 
-  pub bad_cards : {a : Option ℕ} → Reads (take 1 l) a → a ≡ None → asked l ≡ None
+  pub bad_cards : {a : Option ℕ} → Reads (get_or l 0 0 ∷ []) a → a ≡ None → asked l ≡ None
   bad_cards n e = asked_none l λ N S h. none-some _ (sym e ∙ cards_read n N S h)
 
   pub bad_stripes : {a : Option ℕ} → Reads middle a → a ≡ None → asked l ≡ None
   bad_stripes s e = asked_none l λ N S h. none-some _ (sym e ∙ stripes_read s N S h)
 
-  pub bad_limits : (N S : ℕ) {a b : Option ℕ} → Reads (take 1 l) a → Reads middle b → a ≡ Some N → b ≡ Some S → beyond_places N S 5 ≡ true → asked l ≡ None
+  pub bad_limits : (N S : ℕ) {a b : Option ℕ} → Reads (get_or l 0 0 ∷ []) a → Reads middle b → a ≡ Some N → b ≡ Some S → beyond_places N S 5 ≡ true → asked l ≡ None
   bad_limits N S n s e f h = asked_none l go
     where
       go : (M R : ℕ) → asks_for l M R ≡ true → ⊥
@@ -103,10 +103,10 @@ module _ (l : List ℕ) where
           let q : S ≡ R = same_Some _ _ (sym f ∙ stripes_read s M R a) in
           true≢false (sym h ∙ (cc k.legal))
 
-  pub good : (N S : ℕ) {a b : Option ℕ} → 4 ≤ length l → get_or l 1 0 ≡ space → get_or l (length l - 1) 0 ≡ newline → Reads (take 1 l) a → Reads middle b
+  pub good : (N S : ℕ) {a b : Option ℕ} → 3 ≤ length l → get_or l 1 0 ≡ space → get_or l (length l - 1) 0 ≡ newline → Reads (get_or l 0 0 ∷ []) a → Reads middle b
       → a ≡ Some N → b ≡ Some S → beyond_places N S 5 ≡ false → asked l ≡ Some (shape N S)
   unfolding input_text
   good N S h sp nl n s e f legal =
-      let first : take 1 l ≡ decimal N = n.text N e in
+      let first : get_or l 0 0 ∷ [] ≡ decimal N = n.text N e in
       let between : middle ≡ decimal S = s.text S f in
       asked_shape l N S (asks_text l N S legal (split_ends l space newline h sp nl ∙ cc))

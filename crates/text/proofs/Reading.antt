@@ -1,12 +1,14 @@
 -- A number as std reads it: of a number's decimal text it reads the number.
 -- Assumes nothing.
-use Rattle.std.proofs.Common.{ℕ, ◌<◌, ◌≡◌, refl, sym, ap, subst, ◌∙◌, List, Option, Some, None, Result, Ok, Err, Bor, arith}
+use Rattle.std.proofs.Common.{ℕ, ◌<◌, ◌≡◌, refl, sym, ap, subst, ◌∙◌, Bool, true, false, List, Option, Some, None, Result, Ok, Err, Bor, arith}
 use Rattle.std.specs.Str.Parse.{ParsesUnsigned}
 use Rattle.std.proofs.lemmas.Fmt.{parse-decimal, IsAscii-decimal}
 use Rattle.std.proofs.lemmas.Option.{none-some, same_Some}
 use Rattle.std.proofs.lemmas.Str.{IsUtf8-from_ascii}
+use Rattle.std.specs.Bool.{then_some}
 use Rattle.std.specs.Result.{MatchResult, result_ok}
 use Rattle.std.specs.Str.{IsUtf8}
+use Rattle.terms.proofs.Rows.{true≢false}
 use Rattle.text.specs.Decimal.{decimal, Reads}
 use Rattle.text.proofs.Decimal.{printed}
 
@@ -56,7 +58,7 @@ module _ (l : List ℕ) where
           wrong (omega arith) (omega arith) (t ∙ ap decimal same)
           )
 
-      pub is_read : 0 < n → n < 10000 → l ≡ decimal n → Reads l (Some n)
+      is_read : 0 < n → n < 10000 → l ≡ decimal n → Reads l (Some n)
       is_read h k t =
           record {
             some = λ m s. let same = same_Some _ _ s in omega arith;
@@ -64,3 +66,9 @@ module _ (l : List ℕ) where
             text = λ m s. t ∙ ap decimal (same_Some _ _ s);
             only = λ m h k u. sym f ∙ parsed m k u;
           }
+
+      -- so it is one where the number's own text is the text
+      pub own_read : 0 < n → n < 10000 → {own : List ℕ} → own ≡ decimal n → (b : Bool) → (b ≡ true → own ≡ l) × (own ≡ l → b ≡ true) → {a : Option ℕ}
+          → a ≡ then_some b n → Reads l a
+      own_read h k t true is g = subst (Reads l) (sym g) (is_read h k (sym (is.0 refl) ∙ t))
+      own_read h k t false is g = subst (Reads l) (sym g) (other_read (λ _ _ u. true≢false (sym (is.1 (t ∙ sym u)))))

@@ -4,8 +4,8 @@ ghost use Rattle.terms.specs.Lists.{put};
 ghost use Rattle.geometry.specs.Answers.{beyond_places};
 ghost use Rattle.text.specs.Line.{held_text, answer_text, cards_text, written};
 
+use crate::Shape;
 use crate::number::put_number;
-use crate::{beyond, held_at};
 use geometry::Held;
 use terms::Refusal;
 
@@ -40,17 +40,18 @@ fn put_answer(answer: Result<Held, Refusal>, out: &mut [u8], at: usize) -> usize
 }
 
 // Puts what each card holds in a stripe into out from a place on, each after a space, and answers the place behind them.
-fn put_cards(cards: u64, stripes: u64, stripe: u64, out: &mut [u8], at: usize) -> usize
-    requires stripes_value { beyond_places cards stripes 5 ≡ false }
-    requires stripe_lt_stripes { stripe < stripes }
-    requires cards_in_bounds { at + 5 * cards ≤ length out.old }
-    ensures value { result ≡ at + length (cards_text cards stripe cards) }
-    ensures out_after { out.new ≡ put at (cards_text cards stripe cards) out.old }
+// (The place runs along by hand, as `put_number` says.)
+fn put_cards(shape: Shape, stripe: u64, out: &mut [u8], at: usize) -> usize
+    requires stripes_value { beyond_places shape.cards shape.stripes 5 ≡ false }
+    requires stripe_lt_stripes { stripe < shape.stripes }
+    requires cards_in_bounds { at + 5 * shape.cards ≤ length out.old }
+    ensures value { result ≡ at + length (cards_text shape.cards stripe shape.cards) }
+    ensures out_after { out.new ≡ put at (cards_text shape.cards stripe shape.cards) out.old }
 {
     let mut end = at;
-    for card in 0..cards {
+    for card in 0..shape.cards {
         out[end] = b' ';
-        end = put_answer(held_at(cards, stripes, card, stripe), out, end + 1);
+        end = put_answer(shape.held_at(card, stripe), out, end + 1);
     }
     end
 }
@@ -62,17 +63,12 @@ pub fn write_line(cards: u64, stripes: u64, stripe: u64, out: &mut [u8]) -> usiz
     ensures value { result ≡ length (written cards stripes stripe (length out.old)) }
     ensures out_after { out.new ≡ put 0 (written cards stripes stripe (length out.old)) out.old }
 {
-    if out.len() < ROOM {
-        return 0;
-    }
-    if beyond(cards, stripes) {
-        return 0;
-    }
-    if stripes <= stripe {
+    let shape = Shape { cards, stripes };
+    if out.len() < ROOM || shape.beyond() || stripes <= stripe {
         return 0;
     }
     let at = put_number(stripe, out, 0);
-    let end = put_cards(cards, stripes, stripe, out, at);
+    let end = put_cards(shape, stripe, out, at);
     out[end] = b'\n';
     end + 1
 }

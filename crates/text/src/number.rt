@@ -10,20 +10,14 @@ pub(crate) fn read_number(text: &[u8]) -> Option<u64>
     ensures { Reads text.now result }
 {
     let n: u64 = str::from_utf8(text).ok()?.parse().ok()?;
-    if n == 0 {
-        return None;
-    }
-    if 9999 < n {
+    if !(1..=9999).contains(&n) {
         return None;
     }
     // `parse` takes leading zeros and a sign too, which the number's own text has not.
     let mut buffer = Buffer::new();
     let own = buffer.format(n).as_bytes();
     let is_own = own == text;
-    if !is_own {
-        return None;
-    }
-    Some(n)
+    is_own.then_some(n)
 }
 
 // Puts the decimal text of n into out from a place on, and answers the place behind it.

@@ -1,24 +1,23 @@
 -- `text::input::read_input` meets its contract: each test that fails shows a byte that no text of a shape has, and where all hold the
 -- input is the text of the numbers read.
 -- Assumes nothing.
-use borrow.Author.Rules.{rules}
 use mathlib.Core.Path.{sym, ◌∙◌}
 use native.Mathlib.Omega.{arith}
-use lib.Seq.{length-take-le}
+use Rattle.std.proofs.lemmas.Bool.Decides.{nat_tests}
 use Rattle.text.proofs.Parsing.{bad_short, bad_space, bad_end, bad_cards, bad_stripes, bad_limits, good}
 use Rattle.text.proofs.input.read_input.Goals as goal
 
-pub returns-then-n-lt4 : goal.returns-then-n-lt4
-returns-then-n-lt4 c = sym (bad_short _ (search rules))
+-- too few bytes
+pub returns-in_default : goal.returns-in_default
+returns-in_default c = sym (bad_short _ c.in_default.len_below)
 
-pub returns-then-text-ne32 : goal.returns-then-text-ne32
-returns-then-text-ne32 c = sym (bad_space _ c.if-text-ne32.true)
+-- another byte than a newline at the end
+pub returns-in_default-2 : goal.returns-in_default-2
+returns-in_default-2 c = sym (bad_end _ (λ e. grind (arith, nat_tests)))
 
-pub returns-then-not-ended : goal.returns-then-not-ended
-returns-then-not-ended c = sym (bad_end _ c.if-not-ended.true)
-
-pub slice_bounds-read_number-end : goal.slice_bounds-read_number-end
-slice_bounds-read_number-end c = sym (length-take-le 1 c.args.text.now (omega arith))
+-- another byte than a space
+pub returns-in_default-3 : goal.returns-in_default-3
+returns-in_default-3 c = sym (bad_space _ (λ e. grind (arith, nat_tests)))
 
 pub returns-in_err-cards : goal.returns-in_err-cards
 returns-in_err-cards c = c.from_residual.ensures ∙ sym (bad_cards _ c.read_number.ensures c.in_err-cards.was)
@@ -33,6 +32,6 @@ returns-then-beyond c =
 pub returns : goal.returns
 returns c =
     sym (
-    good _ _ _ (omega arith) c.if-text-ne32.false c.if-not-ended.false c.read_number.ensures c.read_number-2.ensures c.in_ok-cards.was
+    good _ _ _ c.in-32.len_at_least (grind (arith, nat_tests)) (grind (arith, nat_tests)) c.read_number.ensures c.read_number-2.ensures c.in_ok-cards.was
     c.in_ok-stripes.was (sym c.beyond.ensures ∙ c.if-beyond.false)
     )

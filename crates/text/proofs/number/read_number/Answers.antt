@@ -1,10 +1,10 @@
 -- `text::number::read_number` meets its contract: each test that fails shows that the text is of no number.
 -- Assumes nothing.
-use Rattle.std.proofs.Common.{sym, ◌∙◌, arith}
+use Rattle.std.proofs.Common.{◌<◌, ◌∙◌, arith}
+use Rattle.std.proofs.lemmas.Grind.{common_steps}
 use Rattle.std.proofs.lemmas.Bool.Decides.{Decides-eqb}
 use Rattle.std.proofs.lemmas.Slice.Eq.{slice_eq-Decides}
-use Rattle.terms.proofs.Rows.{true≢false}
-use Rattle.text.proofs.Reading.{no_text, same_text, unread, other_read, is_read}
+use Rattle.text.proofs.Reading.{no_text, same_text, unread, other_read, own_read}
 use Rattle.text.proofs.Decimal.{printed}
 use Rattle.text.proofs.number.read_number.Goals as goal
 
@@ -16,29 +16,16 @@ returns-in_err-n c =
     let whole = same_text _ _ _ c.from_utf8.ensures.cases c.ok.ensures.value c.in_ok-ok.was in
     unread _ _ c.parse.ensures.value.0 whole c.ok-2.ensures.value c.in_err-n.was c.from_residual-in_err-n.ensures
 
-pub returns-then-n-eq0 : goal.returns-then-n-eq0
-returns-then-n-eq0 c =
+pub returns-then-not-contains : goal.returns-then-not-contains
+returns-then-not-contains c =
     let whole = same_text _ _ _ c.from_utf8.ensures.cases c.ok.ensures.value c.in_ok-ok.was in
-    other_read _ _ c.parse.ensures.value.0 whole c.ok-2.ensures.value _ c.in_ok-n.was (λ h k t. omega arith)
-
-pub returns-then-n-gt9999 : goal.returns-then-n-gt9999
-returns-then-n-gt9999 c =
-    let whole = same_text _ _ _ c.from_utf8.ensures.cases c.ok.ensures.value c.in_ok-ok.was in
-    other_read _ _ c.parse.ensures.value.0 whole c.ok-2.ensures.value _ c.in_ok-n.was (λ h k t. omega arith)
-
-pub returns-then-not-is_own : goal.returns-then-not-is_own
-returns-then-not-is_own c =
-    let whole = same_text _ _ _ c.from_utf8.ensures.cases c.ok.ensures.value c.in_ok-ok.was in
-    let own = c.as_bytes-own.ensures.value ∙ c.format.ensures.text ∙ printed c.in_ok-n.n (omega arith) in
-    let is = slice_eq-Decides Decides-eqb _ _ _ c.eq-is_own.ensures in
-    other_read _ _ c.parse.ensures.value.0 whole c.ok-2.ensures.value _ c.in_ok-n.was (
-    λ h k t.
-    true≢false (sym (is.1 (own ∙ sym t)) ∙ c.if-not-is_own.true)
-    )
+    other_read _ _ c.parse.ensures.value.0 whole c.ok-2.ensures.value _ c.in_ok-n.was (λ h k t. grind (arith, common_steps))
 
 pub returns : goal.returns
 returns c =
     let whole = same_text _ _ _ c.from_utf8.ensures.cases c.ok.ensures.value c.in_ok-ok.was in
+    let above : 0 < c.in_ok-n.n = grind (arith, common_steps) in
+    let small : c.in_ok-n.n < 10000 = grind (arith, common_steps) in
     let own = c.as_bytes-own.ensures.value ∙ c.format.ensures.text ∙ printed c.in_ok-n.n (omega arith) in
-    let is = slice_eq-Decides Decides-eqb _ _ _ c.eq-is_own.ensures in
-    is_read _ _ c.parse.ensures.value.0 whole c.ok-2.ensures.value _ c.in_ok-n.was (omega arith) (omega arith) (sym (is.0 c.if-not-is_own.false) ∙ own)
+    own_read _ _ c.parse.ensures.value.0 whole c.ok-2.ensures.value _ c.in_ok-n.was above small own _ (slice_eq-Decides Decides-eqb _ _ _ c.eq-is_own.ensures)
+    c.then_some.ensures
