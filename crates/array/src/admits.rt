@@ -48,10 +48,7 @@ fn admit_check(
 ) -> Result<(), Refusal>
     ensures { done_reply result ≡ refused (admit_refusal state survey work.now image.now write stripe mask payload.now) }
 {
-    if state.beyond() {
-        return Err(Refusal::BeyondLimits);
-    }
-    let legal = Legal { state };
+    let legal = Legal::new(state)?;
     legal.check(legal.lent_wrong(survey.len, work, image), survey.sound)?;
     if state.stripes <= stripe {
         return Err(Refusal::OutOfRange);

@@ -45,10 +45,7 @@ fn collect_check(
 ) -> Result<(), Refusal>
     ensures { done_reply result ≡ refused (collect_refusal state survey r work.now i res.now) }
 {
-    if state.beyond() {
-        return Err(Refusal::BeyondLimits);
-    }
-    let legal = Legal { state };
+    let legal = Legal::new(state)?;
     let sound = legal.sound_with(survey, r, r.is_sound(state));
     legal.check(legal.stores_wrong(survey.len, work), sound)?;
     if state.records <= i {

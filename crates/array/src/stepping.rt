@@ -34,10 +34,7 @@ fn step_check(
     requires { (look ≡ look_of state r) × (action_step action ≡ step_of (units_of state) k) }
     ensures { done_reply result ≡ refused (step_refusal state survey r work.now image.now i k) }
 {
-    if state.beyond() {
-        return Err(Refusal::BeyondLimits);
-    }
-    let legal = Legal { state };
+    let legal = Legal::new(state)?;
     let sound = legal.sound_with(survey, r, look.sound);
     legal.check(legal.lent_wrong(survey.len, work, image), sound)?;
     if state.records <= i {
