@@ -11,6 +11,7 @@ use crate::answers::Changed;
 use crate::places::{Legal, Row};
 use block::carry;
 use geometry::State;
+use graph::has;
 use record::{Survey, admitted, legal_mask};
 use terms::Refusal;
 
@@ -24,8 +25,8 @@ impl Row {
     {
         let size = self.of.state.block as usize;
         let mut from: usize = 0;
-        for u in 0..self.of.state.cards - 1 {
-            if (mask >> u) % 2 == 1 {
+        for u in 0..self.of.units() {
+            if has(u, mask) {
                 let at = self.write_at(u);
                 carry(work, at, payload, from, size);
                 from += size;
@@ -53,7 +54,7 @@ fn admit_check(
     if state.stripes <= stripe {
         return Err(Refusal::OutOfRange);
     }
-    if !legal_mask(state.cards - 1, mask) {
+    if !legal_mask(legal.units(), mask) {
         return Err(Refusal::WrongMask);
     }
     let due = if write { legal.unit_bytes(mask) } else { 0 };

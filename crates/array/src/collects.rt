@@ -11,6 +11,7 @@ use crate::answers::Changed;
 use crate::places::{Legal, Row};
 use block::carry;
 use geometry::State;
+use graph::has;
 use record::{Record, Survey, free};
 use terms::Refusal;
 
@@ -23,8 +24,8 @@ impl Row {
     {
         let size = self.of.state.block as usize;
         let mut place: usize = 0;
-        for u in 0..self.of.state.cards - 1 {
-            if (mask >> u) % 2 == 1 {
+        for u in 0..self.of.units() {
+            if has(u, mask) {
                 let at = self.read_at(u);
                 carry(res, place, work, at, size);
                 place += size;

@@ -6,6 +6,7 @@ ghost use Rattle.terms.specs.Lists.{part};
 ghost use Rattle.terms.specs.Reply.{refused, refusal_reply};
 ghost use Rattle.geometry.specs.Limits.{beyond_state};
 ghost use Rattle.geometry.specs.Store.{image_size, work_size, cell_at, write_at, read_at};
+ghost use Rattle.record.specs.Life.{units_of};
 
 use geometry::State;
 use terms::Refusal;
@@ -44,6 +45,14 @@ impl Legal {
             return Err(Refusal::BeyondLimits);
         }
         Ok(Legal { state })
+    }
+
+    // The units of a stripe: all its positions but parity's.
+    #[tactic(auto, using(crate::proofs::Within::within))]
+    pub(crate) fn units(self) -> u64
+        ensures { result ≡ units_of self.state }
+    {
+        self.state.cards - 1
     }
 
     // The bytes of an image.

@@ -44,7 +44,7 @@ fn step_check(
         return Err(Refusal::WrongPhase);
     }
     if !ready_by(
-        state.cards - 1,
+        legal.units(),
         r.graph,
         look.steps,
         look.reads,
