@@ -1,7 +1,7 @@
 // Admit: a request takes the lowest free record.
 // Assumes nothing.
-ghost use Rattle.std.specs.Prelude.{◌≡◌};
-ghost use Rattle.terms.specs.Reply.{refused, done_reply};
+ghost use Rattle.std.specs.Prelude.{◌≡◌, IfOk};
+ghost use Rattle.terms.specs.Reply.{accepted, refused, reply_of};
 ghost use Rattle.array.specs.Admission.{admission_by, keep_units};
 ghost use Rattle.array.specs.Outcomes.{AdmissionIs};
 ghost use Rattle.array.specs.Premises.{Keeping};
@@ -35,7 +35,7 @@ impl Row {
     }
 }
 
-// Whether admit is refused, in the paper's order.
+// Whether admit is refused, in the paper's order; if not, the state is within its limits.
 #[tactic(auto, using(crate::proofs::LentRows::lent_tests, crate::proofs::Within::within), unfolding(crate::specs::Refusals::admit_refusal, crate::specs::Refusals::admit_rows, crate::specs::Refusals::payload_wrong, terms::specs::Reply::first_row))]
 fn admit_check(
     state: State,
@@ -46,8 +46,9 @@ fn admit_check(
     stripe: u64,
     mask: u64,
     payload: &[u8],
-) -> Result<(), Refusal>
-    ensures { done_reply result ≡ refused (admit_refusal state survey work.now image.now write stripe mask payload.now) }
+) -> Result<Legal, Refusal>
+    ensures reply { reply_of (λ legal. accepted 0 0) result ≡ refused (admit_refusal state survey work.now image.now write stripe mask payload.now) }
+    ensures same { IfOk result (λ legal. legal.state ≡ state) }
 {
     let legal = Legal::new(state)?;
     legal.check(legal.lent_wrong(survey.len, work, image), survey.sound)?;
@@ -67,7 +68,7 @@ fn admit_check(
     if state.records <= survey.free {
         return Err(Refusal::NoFreeRecord);
     }
-    Ok(())
+    Ok(legal)
 }
 
 // Admits a request by a survey of the table: the record's number, and the record that is taken, with its place.
@@ -84,13 +85,10 @@ pub fn admit_by(
 ) -> Result<Changed<u64>, Refusal>
     ensures { AdmissionIs (admission_by state survey work.old image.now write stripe mask payload.now) result work.new }
 {
-    admit_check(state, survey, work, image, write, stripe, mask, payload)?;
+    let of = admit_check(state, survey, work, image, write, stripe, mask, payload)?;
     let place = survey.free;
     if write {
-        let row = Row {
-            of: Legal { state },
-            number: place,
-        };
+        let row = Row { of, number: place };
         row.keep_units(mask, payload, work);
     }
     Ok(Changed {

@@ -7,17 +7,16 @@ ghost use Rattle.geometry.specs.Store.{work_size};
 
 use crate::places::Row;
 use block::{add, carry};
-use graph::has;
 
 // Adds the blocks of a set of positions, which stand one behind the other from a place on. (`chunks_exact` would take the part cut out first and
-// `enumerate` for the positions: no plainer.)
+// `enumerate` for the positions: no plainer. And `graph::has` tests that p is below 64 too: with it a small write takes 1 % more instructions.)
 #[tactic(auto, using(crate::proofs::Adding::block_ends), unfolding(terms::specs::Lists::part))]
 fn add_taken(sum: &mut [u8; 512], taken: u64, first: usize, cards: u64, size: usize, work: &[u8])
     requires { (cards ≤ 8) × (first + cards * size ≤ length work.now) }
     ensures { sum.new ≡ summed cards (taken_if taken first size work.now) sum.old }
 {
     for p in 0..cards {
-        if has(p, taken) {
+        if (taken >> p) % 2 == 1 {
             let at = first + p as usize * size;
             add(sum, &work[at..at + size]);
         }
