@@ -84,6 +84,7 @@ pub fn step_by(
     ensures { SteppingIs (stepping_by state survey r work.old image.old i k) result work.new image.new }
 {
     let look = r.look(state);
+    // (Saturating: a state that is lent may have no card.)
     let action = step_of(state.cards.saturating_sub(1), k);
     let of = step_check(state, survey, r, look, action, work, image, i, k)?;
     if meets_out(action, look.out) {
