@@ -118,7 +118,6 @@ pub ruleset looked = (looked_sound, passed_sound, look_ready)
 module _ (st : State) (v : Survey) (r : Record) (work image : List ℕ) (i k : ℕ) where
   -- an accepted step, by what a look at the record finds: it can be done, and the record after it is the paper's
   pub record Stepped (look : Look) : Type 0 where
-    pub limits : beyond_state st ≡ false
     pub standing : Standing st work image i r
     pub x_is : look.x ≡ chosen_at st r
     pub out_is : look.out ≡ missing_in st r.stripe
@@ -140,7 +139,6 @@ module _ (st : State) (v : Survey) (r : Record) (work image : List ℕ) (i k : �
       let sound = own_sound st v r p.is_fine in
       let few = few_units_law st p.limits in
       record {
-        limits = p.limits;
         standing =
             record {
               limits = legal_state_law st p.limits;
@@ -164,7 +162,6 @@ afresh_some st r = choose_some _ _ _ _
 
 -- the units of a mask can be moved, of record i
 pub record Movable (st : State) (i mask : ℕ) (units work : List ℕ) : Type 0 where
-  pub limits : beyond_state st ≡ false
   pub below : i < st.records
   pub keeping : Keeping st mask units work
 
@@ -181,7 +178,6 @@ collect_accepted st v r work i result e reads =
     let own = failed_second (lent_rows st (tw || ww) (sound_with st v r)) (collect_rows st r i result) f in
     let sound = own_sound st v r p.is_fine in
     record {
-      limits = p.limits;
       below = leb-false st.records i own.0;
       keeping =
           record {
@@ -205,7 +201,6 @@ admit_accepted st v work image write s mask payload e w =
     let own = failed_second (lent_rows st (iw || tw || ww) v.sound) (admit_rows st v write s mask payload) f in
     let long : not (eqb (length payload) (unit_bytes st mask)) ≡ false = rw w at own.1.1.0 in
     record {
-      limits = p.limits;
       below = leb-false st.records v.free own.1.1.1.1.0;
       keeping =
           record {
@@ -217,35 +212,26 @@ admit_accepted st v work image write s mask payload e w =
 
 -- what the code's own values rest on there
 module _ (st : State) (v : Survey) (r : Record) (work : List ℕ) (i : ℕ) (result : List ℕ) (z : accepted 0 0 ≡ refused (collect_refusal st v r work i result)) (reads : is_write r ≡ false) where
-  pub collect_limits : beyond_state st ≡ false
-  collect_limits = (collect_accepted st v r work i result (number_0 _ z) reads).limits
-
   pub collect_below : i < st.records
   collect_below = (collect_accepted st v r work i result (number_0 _ z) reads).below
 
   pub collect_keeping : Keeping st r.mask result work
   collect_keeping = (collect_accepted st v r work i result (number_0 _ z) reads).keeping
 
-pub ruleset collect_rests = (collect_limits, collect_below, collect_keeping)
+pub ruleset collect_rests = (collect_below, collect_keeping)
 
 module _ (st : State) (v : Survey) (work image : List ℕ) (write : Bool) (s mask : ℕ) (payload : List ℕ) (z : accepted 0 0 ≡ refused (admit_refusal st v work image write s mask payload)) (writes : write ≡ true) where
-  pub admit_limits : beyond_state st ≡ false
-  admit_limits = (admit_accepted st v work image write s mask payload (number_0 _ z) writes).limits
-
   pub admit_below : v.free < st.records
   admit_below = (admit_accepted st v work image write s mask payload (number_0 _ z) writes).below
 
   pub admit_keeping : Keeping st mask payload work
   admit_keeping = (admit_accepted st v work image write s mask payload (number_0 _ z) writes).keeping
 
-pub ruleset admit_rests = (admit_limits, admit_below, admit_keeping)
+pub ruleset admit_rests = (admit_below, admit_keeping)
 
 module _ (st : State) (v : Survey) (r : Record) (work image : List ℕ) (i k : ℕ) (look : Look) (is : look ≡ look_of st r) (z : accepted 0 0 ≡ refused (step_refusal st v r work image i k)) where
   stepping : Stepped st v r work image i k look
   stepping = step_accepted st v r work image i k look is (number_0 _ z)
-
-  pub step_limits : beyond_state st ≡ false
-  step_limits = stepping.limits
 
   pub step_below : i < st.records
   step_below = stepping.standing.record_below
@@ -274,4 +260,4 @@ module _ (st : State) (v : Survey) (r : Record) (work image : List ℕ) (i k : �
   pub step_afresh : after_choice st r look.out ≡ afresh st r
   step_afresh = stepping.afresh
 
-pub ruleset step_rests = (step_limits, step_below, step_stripe, step_x, step_reads, step_x_below, step_out, step_done, step_afresh)
+pub ruleset step_rests = (step_below, step_stripe, step_x, step_reads, step_x_below, step_out, step_done, step_afresh)

@@ -86,15 +86,13 @@ module _ (st : State) (i : ℕ) (r : Record) (work image : List ℕ) (k : Standi
       ∙ ap₂ (λ (a : ℕ) (l : List ℕ). put a l work) at-is
       (cell-is ∙ ap (λ (c : ℕ). part (cell_at st.stripes st.block c r.stripe) st.block image) (card_found p card h card-is))
 
-  pub performed_write : (p card at from : ℕ) (b : List ℕ) → p < st.cards → card ≡ card_in st.cards st.layout r.stripe p
-      → at ≡ cell_at st.stripes st.block card r.stripe → from ≡ write_at st.cards st.block i p
-      → b ≡ copied (mid_of at (at + st.block - at) image) (mid_of from (from + st.block - from) work)
-      → put_mid at (at + st.block - at) image b ≡ image_after st i r (wr p) work image
+  pub performed_write : (p card at from : ℕ) (m : List ℕ) → p < st.cards → card ≡ card_in st.cards st.layout r.stripe p
+      → at ≡ cell_at st.stripes st.block card r.stripe → from ≡ write_at st.cards st.block i p → m ≡ carried image at work from st.block
+      → m ≡ image_after st i r (wr p) work image
   unfolding image_after
-  performed_write p card at from b h card-is at-is from_is moved =
-      copied_part image at st.block (part from st.block work) b (cell_room p card at h card-is at-is)
-      (length_part from st.block work (write_room p from h from_is))
-      (moved ∙ ap (copied (mid_of at (at + st.block - at) image)) (mid_part from st.block work))
+  performed_write p card at from m h card-is at-is from_is moved =
+      moved
+      ∙ carried_whole image at work from st.block (cell_room p card at h card-is at-is) (write_room p from h from_is)
       ∙ ap₂ (λ (a f : ℕ). put a (part f st.block work) image)
       (at-is ∙ ap (λ (c : ℕ). cell_at st.stripes st.block c r.stripe) (card_found p card h card-is)) from_is
 

@@ -47,7 +47,18 @@ pub record CollectionIs (d : CollectionBy) (answer : Result (Changed ℕ) Refusa
   pub changed : IfOk answer (λ c. (c.place ≡ d.place) × (c.«record» ≡ d.stands))
   pub result_left : result ≡ d.result
 
+-- the state that an answer of rebuild hands back, the old one if refused
+abbrev pub state_after : State → Result Filled Refusal → State
+state_after st (Ok f) = f.state
+state_after st (Err r) = st
+
+-- the image once the block of this answer is restored in it; if refused, none is
+abbrev pub restored_by : State → List ℕ → Result Filled Refusal → List ℕ
+restored_by st image (Ok f) = restored_in st image st.out f.stripe
+restored_by st image (Err r) = image
+
 -- rebuild, before the block is written: its answer, the state, and the image that there is once the block is restored in it
 pub record RebuildingSaid (d : Rebuilding) (st : State) (image : List ℕ) (answer : Result Filled Refusal) : Type 0 where
   pub reply : reply_of (λ f. accepted f.stripe 0) answer ≡ d.reply
-  pub filled : IfOk answer (λ f. (f.state ≡ d.state) × (restored_in st image st.out f.stripe ≡ d.image))
+  pub state_left : state_after st answer ≡ d.state
+  pub image_left : restored_by st image answer ≡ d.image

@@ -1,7 +1,7 @@
 // Admit: a request takes the lowest free record.
 // Assumes nothing.
-ghost use Rattle.std.specs.Prelude.{◌≡◌};
-ghost use Rattle.terms.specs.Reply.{refused, done_reply};
+ghost use Rattle.std.specs.Prelude.{◌≡◌, IfOk};
+ghost use Rattle.terms.specs.Reply.{accepted, refused, reply_of};
 ghost use Rattle.array.specs.Admission.{admission_by, keep_units};
 ghost use Rattle.array.specs.Outcomes.{AdmissionIs};
 ghost use Rattle.array.specs.Premises.{Keeping};
@@ -11,6 +11,7 @@ use crate::answers::Changed;
 use crate::places::{Legal, Row};
 use block::carry;
 use geometry::State;
+use graph::has;
 use record::{Survey, admitted, legal_mask};
 use terms::Refusal;
 
@@ -24,8 +25,8 @@ impl Row {
     {
         let size = self.of.state.block as usize;
         let mut from: usize = 0;
-        for u in 0..self.of.state.cards - 1 {
-            if (mask >> u) % 2 == 1 {
+        for u in 0..self.of.units() {
+            if has(u, mask) {
                 let at = self.write_at(u);
                 carry(work, at, payload, from, size);
                 from += size;
@@ -34,7 +35,7 @@ impl Row {
     }
 }
 
-// Whether admit is refused, in the paper's order.
+// Whether admit is refused, in the paper's order; if not, the state is within its limits.
 #[tactic(auto, using(crate::proofs::LentRows::lent_tests, crate::proofs::Within::within), unfolding(crate::specs::Refusals::admit_refusal, crate::specs::Refusals::admit_rows, crate::specs::Refusals::payload_wrong, terms::specs::Reply::first_row))]
 fn admit_check(
     state: State,
@@ -45,18 +46,16 @@ fn admit_check(
     stripe: u64,
     mask: u64,
     payload: &[u8],
-) -> Result<(), Refusal>
-    ensures { done_reply result ≡ refused (admit_refusal state survey work.now image.now write stripe mask payload.now) }
+) -> Result<Legal, Refusal>
+    ensures reply { reply_of (λ legal. accepted 0 0) result ≡ refused (admit_refusal state survey work.now image.now write stripe mask payload.now) }
+    ensures same { IfOk result (λ legal. legal.state ≡ state) }
 {
-    if state.beyond() {
-        return Err(Refusal::BeyondLimits);
-    }
-    let legal = Legal { state };
+    let legal = Legal::new(state)?;
     legal.check(legal.lent_wrong(survey.len, work, image), survey.sound)?;
     if state.stripes <= stripe {
         return Err(Refusal::OutOfRange);
     }
-    if !legal_mask(state.cards - 1, mask) {
+    if !legal_mask(legal.units(), mask) {
         return Err(Refusal::WrongMask);
     }
     let due = if write { legal.unit_bytes(mask) } else { 0 };
@@ -69,7 +68,7 @@ fn admit_check(
     if state.records <= survey.free {
         return Err(Refusal::NoFreeRecord);
     }
-    Ok(())
+    Ok(legal)
 }
 
 // Admits a request by a survey of the table: the record's number, and the record that is taken, with its place.
@@ -86,13 +85,10 @@ pub fn admit_by(
 ) -> Result<Changed<u64>, Refusal>
     ensures { AdmissionIs (admission_by state survey work.old image.now write stripe mask payload.now) result work.new }
 {
-    admit_check(state, survey, work, image, write, stripe, mask, payload)?;
+    let of = admit_check(state, survey, work, image, write, stripe, mask, payload)?;
     let place = survey.free;
     if write {
-        let row = Row {
-            of: Legal { state },
-            number: place,
-        };
+        let row = Row { of, number: place };
         row.keep_units(mask, payload, work);
     }
     Ok(Changed {

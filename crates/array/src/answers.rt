@@ -2,7 +2,8 @@
 use geometry::State;
 use record::Record;
 
-// Of step: done, or chosen afresh with the new graph's number.
+// Of step: done, or chosen afresh with the new graph's number. (The number, as the record holds it: a step answers any record, sound or not, and
+// `step_values` is of the number.)
 #[derive(Clone, Copy, Debug, PartialEq, Eq)]
 pub enum Stepped {
     Done,

@@ -1,7 +1,7 @@
 // Collect: what a finished request read is handed over, and its record freed.
 // Assumes nothing.
-ghost use Rattle.std.specs.Prelude.{◌≡◌};
-ghost use Rattle.terms.specs.Reply.{refused, done_reply};
+ghost use Rattle.std.specs.Prelude.{◌≡◌, IfOk};
+ghost use Rattle.terms.specs.Reply.{accepted, refused, reply_of};
 ghost use Rattle.array.specs.Collection.{collection_by, hand_over};
 ghost use Rattle.array.specs.Outcomes.{CollectionIs};
 ghost use Rattle.array.specs.Premises.{Keeping};
@@ -11,6 +11,7 @@ use crate::answers::Changed;
 use crate::places::{Legal, Row};
 use block::carry;
 use geometry::State;
+use graph::has;
 use record::{Record, Survey, free};
 use terms::Refusal;
 
@@ -23,8 +24,8 @@ impl Row {
     {
         let size = self.of.state.block as usize;
         let mut place: usize = 0;
-        for u in 0..self.of.state.cards - 1 {
-            if (mask >> u) % 2 == 1 {
+        for u in 0..self.of.units() {
+            if has(u, mask) {
                 let at = self.read_at(u);
                 carry(res, place, work, at, size);
                 place += size;
@@ -33,7 +34,7 @@ impl Row {
     }
 }
 
-// Whether collect is refused, in the paper's order. It isn't lent the image.
+// Whether collect is refused, in the paper's order; if not, the state is within its limits. It isn't lent the image.
 #[tactic(auto, using(crate::proofs::LentRows::lent_tests), unfolding(crate::specs::Refusals::collect_refusal, crate::specs::Refusals::collect_rows, crate::specs::Refusals::result_short, terms::specs::Reply::first_row))]
 fn collect_check(
     state: State,
@@ -42,13 +43,11 @@ fn collect_check(
     work: &[u8],
     i: u64,
     res: &[u8],
-) -> Result<(), Refusal>
-    ensures { done_reply result ≡ refused (collect_refusal state survey r work.now i res.now) }
+) -> Result<Legal, Refusal>
+    ensures reply { reply_of (λ legal. accepted 0 0) result ≡ refused (collect_refusal state survey r work.now i res.now) }
+    ensures same { IfOk result (λ legal. legal.state ≡ state) }
 {
-    if state.beyond() {
-        return Err(Refusal::BeyondLimits);
-    }
-    let legal = Legal { state };
+    let legal = Legal::new(state)?;
     let sound = legal.sound_with(survey, r, r.is_sound(state));
     legal.check(legal.stores_wrong(survey.len, work), sound)?;
     if state.records <= i {
@@ -60,7 +59,7 @@ fn collect_check(
     if !r.is_write() && res.len() < legal.unit_bytes(r.mask) {
         return Err(Refusal::WrongPayload);
     }
-    Ok(())
+    Ok(legal)
 }
 
 // Collects finished record i, which is r, by a survey of the rest of the table: its count of steps, and the freed record, with its place.
@@ -75,12 +74,9 @@ pub fn collect_by(
 ) -> Result<Changed<u64>, Refusal>
     ensures { CollectionIs (collection_by state survey r work.now i res.old) result res.new }
 {
-    collect_check(state, survey, r, work, i, res)?;
+    let of = collect_check(state, survey, r, work, i, res)?;
     if !r.is_write() {
-        let row = Row {
-            of: Legal { state },
-            number: i,
-        };
+        let row = Row { of, number: i };
         row.hand_over(r.mask, work, res);
     }
     Ok(Changed {

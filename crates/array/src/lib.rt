@@ -1,5 +1,5 @@
 // The calls on an array: open, admit, step, collect, scan and rebuild, by a survey of the table, or its length, for whoever lends it.
-// (Report and start are lent the state alone, and are methods of it.)
+// (Report and start are lent the state alone, and are methods of it. What is lent goes one by one, as in `calls`, whose header says why.)
 // Assumes nothing.
 #![tactic(auto)]
 

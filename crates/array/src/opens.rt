@@ -39,10 +39,7 @@ pub fn open_by(
     ensures { OpeningIs (opening_by «geometry» out len work.now image.now) result }
 {
     let state = opened(geometry, out);
-    if state.beyond() {
-        return Err(Refusal::BeyondLimits);
-    }
-    let legal = Legal { state };
+    let legal = Legal::new(state)?;
     if legal.lent_wrong(len, work, image) {
         return Err(Refusal::WrongLength);
     }

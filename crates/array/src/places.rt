@@ -1,12 +1,15 @@
 // Where blocks stand, and how large the stores are, of a state within its limits. A call of the array has tested once, for all blocks,
 // what geometry's functions test at each: so they are not asked here.
 // Assumes nothing.
-ghost use Rattle.std.specs.Prelude.{true, false, ◌≡◌, ◌+◌, ◌*◌, ◌≤◌, ◌<◌, length};
+ghost use Rattle.std.specs.Prelude.{true, false, ◌≡◌, ◌+◌, ◌*◌, ◌≤◌, ◌<◌, length, IfOk, IfErr};
 ghost use Rattle.terms.specs.Lists.{part};
+ghost use Rattle.terms.specs.Reply.{refused, refusal_reply};
 ghost use Rattle.geometry.specs.Limits.{beyond_state};
 ghost use Rattle.geometry.specs.Store.{image_size, work_size, cell_at, write_at, read_at};
+ghost use Rattle.record.specs.Life.{units_of};
 
 use geometry::State;
+use terms::Refusal;
 
 // A state within its limits.
 #[derive(Clone, Copy)]
@@ -33,6 +36,25 @@ fn offset(row: u64, width: u64, column: u64, block: u64) -> usize
 }
 
 impl Legal {
+    // A state, where it is within its limits. Refusal 1.
+    pub(crate) fn new(state: State) -> Result<Legal, Refusal>
+        ensures ok { IfOk result (λ legal. legal.state ≡ state) }
+        ensures err { IfErr result (λ refusal. (beyond_state state ≡ true) × (refusal_reply refusal ≡ refused 1)) }
+    {
+        if state.beyond() {
+            return Err(Refusal::BeyondLimits);
+        }
+        Ok(Legal { state })
+    }
+
+    // The units of a stripe: all its positions but parity's.
+    #[tactic(auto, using(crate::proofs::Within::within))]
+    pub(crate) fn units(self) -> u64
+        ensures { result ≡ units_of self.state }
+    {
+        self.state.cards - 1
+    }
+
     // The bytes of an image.
     #[tactic(auto, using(crate::proofs::Within::within, crate::proofs::Within::products), unfolding(geometry::specs::Store::image_size))]
     pub(crate) fn image_size(self) -> usize

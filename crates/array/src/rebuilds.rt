@@ -19,10 +19,7 @@ use terms::Refusal;
 fn rebuild_check(state: State, survey: Survey, image: &[u8]) -> Result<(), Refusal>
     ensures { done_reply result ≡ refused (rebuild_refusal state survey image.now) }
 {
-    if state.beyond() {
-        return Err(Refusal::BeyondLimits);
-    }
-    let legal = Legal { state };
+    let legal = Legal::new(state)?;
     legal.check(legal.seen_wrong(survey.len, image), survey.sound)?;
     if survey.is_held(state.fill) {
         return Err(Refusal::StripeHeld);

@@ -65,7 +65,7 @@ impl Legal {
     pub(crate) fn unit_bytes(self, mask: u64) -> usize
         ensures { result ≡ unit_bytes self.state mask }
     {
-        let m = u64::count_ones(mask) as u64;
+        let m = u64::from(mask.count_ones());
         (m * self.state.block) as usize
     }
 

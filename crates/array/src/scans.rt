@@ -15,10 +15,7 @@ use terms::Refusal;
 pub fn scan_by(state: State, survey: Survey, image: &[u8]) -> Result<(), Refusal>
     ensures { done_reply result ≡ scan_reply_by state survey image.now }
 {
-    if state.beyond() {
-        return Err(Refusal::BeyondLimits);
-    }
-    let legal = Legal { state };
+    let legal = Legal::new(state)?;
     legal.check(legal.seen_wrong(survey.len, image), survey.sound)?;
     if state.out != NONE {
         return Err(Refusal::CardOut);

@@ -1,7 +1,7 @@
 // Step: a ready step is done, or, where its card is out, the graph is chosen afresh.
 // Assumes nothing.
-ghost use Rattle.std.specs.Prelude.{◌≡◌};
-ghost use Rattle.terms.specs.Reply.{refused, done_reply};
+ghost use Rattle.std.specs.Prelude.{◌≡◌, IfOk};
+ghost use Rattle.terms.specs.Reply.{accepted, refused, reply_of};
 ghost use Rattle.array.specs.Outcomes.{SteppingIs};
 ghost use Rattle.array.specs.Refusals.{step_refusal};
 ghost use Rattle.array.specs.Stepping.{stepping_by, meets_out};
@@ -18,7 +18,7 @@ use graph::{Action, ready_by, step_of};
 use record::{Look, Record, Survey};
 use terms::Refusal;
 
-// Whether step is refused, in the paper's order. What a look at the record finds is given, and what step k does.
+// Whether step is refused, in the paper's order; if not, the state is within its limits. What a look at the record finds is given, and what step k does.
 #[tactic(auto, using(crate::proofs::LentRows::lent_tests, crate::proofs::Within::within, crate::proofs::Accepted::looked), unfolding(crate::specs::Refusals::step_refusal, crate::specs::Refusals::step_rows, terms::specs::Reply::first_row))]
 fn step_check(
     state: State,
@@ -30,14 +30,12 @@ fn step_check(
     image: &[u8],
     i: u64,
     k: u64,
-) -> Result<(), Refusal>
+) -> Result<Legal, Refusal>
     requires { (look ≡ look_of state r) × (action_step action ≡ step_of (units_of state) k) }
-    ensures { done_reply result ≡ refused (step_refusal state survey r work.now image.now i k) }
+    ensures reply { reply_of (λ legal. accepted 0 0) result ≡ refused (step_refusal state survey r work.now image.now i k) }
+    ensures same { IfOk result (λ legal. legal.state ≡ state) }
 {
-    if state.beyond() {
-        return Err(Refusal::BeyondLimits);
-    }
-    let legal = Legal { state };
+    let legal = Legal::new(state)?;
     let sound = legal.sound_with(survey, r, look.sound);
     legal.check(legal.lent_wrong(survey.len, work, image), sound)?;
     if state.records <= i {
@@ -47,7 +45,7 @@ fn step_check(
         return Err(Refusal::WrongPhase);
     }
     if !ready_by(
-        state.cards - 1,
+        legal.units(),
         r.graph,
         look.steps,
         look.reads,
@@ -57,7 +55,7 @@ fn step_check(
     ) {
         return Err(Refusal::StepNotReady);
     }
-    Ok(())
+    Ok(legal)
 }
 
 // Whether the step is on position x.
@@ -86,8 +84,9 @@ pub fn step_by(
     ensures { SteppingIs (stepping_by state survey r work.old image.old i k) result work.new image.new }
 {
     let look = r.look(state);
+    // (Saturating: a state that is lent may have no card.)
     let action = step_of(state.cards.saturating_sub(1), k);
-    step_check(state, survey, r, look, action, work, image, i, k)?;
+    let of = step_check(state, survey, r, look, action, work, image, i, k)?;
     if meets_out(action, look.out) {
         let chosen = r.after_choice(state, look.out);
         return Ok(Changed {
@@ -97,10 +96,7 @@ pub fn step_by(
         });
     }
     let standing = Standing {
-        row: Row {
-            of: Legal { state },
-            number: i,
-        },
+        row: Row { of, number: i },
         r,
         x: look.x,
         reads: look.reads,

@@ -8,7 +8,8 @@ ghost use Rattle.geometry.specs.Store.{work_size};
 use crate::places::Row;
 use block::{add, carry};
 
-// Adds the blocks of a set of positions, which stand one behind the other from a place on. (`chunks_exact` would divide by B at each sum.)
+// Adds the blocks of a set of positions, which stand one behind the other from a place on. (`chunks_exact` would take the part cut out first and
+// `enumerate` for the positions: no plainer. And `graph::has` tests that p is below 64 too: with it a small write takes 1 % more instructions.)
 #[tactic(auto, using(crate::proofs::Adding::block_ends), unfolding(terms::specs::Lists::part))]
 fn add_taken(sum: &mut [u8; 512], taken: u64, first: usize, cards: u64, size: usize, work: &[u8])
     requires { (cards ≤ 8) × (first + cards * size ≤ length work.now) }

@@ -21,12 +21,11 @@ use Rattle.record.specs.declared.Record.{Record}
 use Rattle.array.proofs.Admissions.{admit_number_law, admit_refused}
 use Rattle.array.proofs.Collections.{collect_number_law, collect_refused}
 use Rattle.array.proofs.Openings.{open_number_law, open_refused}
-use Rattle.array.proofs.Rebuildings.{rebuild_number_law, rebuild_refused}
 use Rattle.array.proofs.Steppings.{step_number_law, step_refused}
 use Rattle.array.specs.Admission.{Admission, admission_by, admission}
 use Rattle.array.specs.Collection.{Collection, collection_by, collection}
 use Rattle.array.specs.Opening.{opening_by, opening}
-use Rattle.array.specs.Rebuilding.{Rebuilding, rebuilding_by, rebuilding}
+use Rattle.array.specs.Rebuilding.{rebuilding_by, rebuilding}
 use Rattle.array.specs.Scan.{scan_reply_by, scan_reply}
 use Rattle.array.specs.Stepping.{Stepping, stepping_by, stepping}
 use Rattle.array.specs.Outcomes.{OpeningIs, AdmissionIs, SteppingIs, CollectionIs, RebuildingSaid}
@@ -105,7 +104,7 @@ module _ (l : List Record) where
     unfolding rebuilding
     rebuild_lent image f m before written =
         let is : RebuildingSaid (rebuilding_by st (survey_of st l) image) st image (Ok f) = rw (survey_whole st l) at before in
-        record { reply = is.reply; state_left = is.filled.0; image_left = written ∙ is.filled.1 }
+        record { reply = is.reply; state_left = is.state_left; image_left = written ∙ is.image_left }
 
     -- one that is refused
     pub rebuild_kept : (image : List ℕ) (e : Refusal) → RebuildingSaid (rebuilding_by st (survey_but st l 8) image) st image (Err e)
@@ -113,5 +112,4 @@ module _ (l : List Record) where
     unfolding rebuilding
     rebuild_kept image e before =
         let is : RebuildingSaid (rebuilding_by st (survey_of st l) image) st image (Err e) = rw (survey_whole st l) at before in
-        let left = rebuild_refused st l image (refuses e is.reply (rebuild_number_law st l image)) in
-        record { reply = is.reply; state_left = sym (ap (λ (d : Rebuilding). d.state) left); image_left = sym (ap (λ (d : Rebuilding). d.image) left) }
+        record { reply = is.reply; state_left = is.state_left; image_left = is.image_left }

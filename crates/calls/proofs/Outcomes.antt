@@ -26,13 +26,12 @@ use Rattle.graph.specs.declared.named.Graph.TheVariants as graph
 use Rattle.graph.specs.declared.named.UnknownGraph.{UnknownGraph}
 use Rattle.graph.specs.declared.steps.Action.{Action}
 use Rattle.graph.specs.declared.steps.Action.TheVariants as action
-use Rattle.parity.specs.Rest.{restored_in}
 use Rattle.record.specs.declared.Record.{Record}
 use Rattle.array.specs.Admission.{AdmissionBy, Admission}
 use Rattle.array.specs.Answers.{step_values}
 use Rattle.array.specs.Collection.{CollectionBy, Collection}
 use Rattle.array.specs.Opening.{OpeningBy, Opening}
-use Rattle.array.specs.Outcomes.{opened_state, OpeningIs, AdmissionIs, SteppingIs, CollectionIs, RebuildingSaid}
+use Rattle.array.specs.Outcomes.{opened_state, state_after, restored_by, OpeningIs, AdmissionIs, SteppingIs, CollectionIs, RebuildingSaid}
 use Rattle.array.specs.Rebuilding.{Rebuilding}
 use Rattle.array.specs.Stepping.{SteppingBy, Stepping}
 use Rattle.array.specs.declared.answers.Changed.{Changed}
@@ -155,18 +154,17 @@ module _ {d : CollectionBy} {a b : Result (Changed ℕ) Refusal} {m n : List ℕ
 filled : (made : ℕ → State → Filled) {s z : ℕ} {t u : State} → s ≡ z → t ≡ u → made s t ≡ made z u
 filled made p q = cc
 
--- the image that a rebuild step of this answer leaves
-abbrev written : State → List ℕ → Result Filled Refusal → List ℕ
-written st image (Ok f) = restored_in st image st.out f.stripe
-written st image (Err r) = image
+state_filled : (st : State) (a : Result Filled Refusal) {s : State} → state_after st a ≡ s → IfOk a (λ f. f.state ≡ s)
+state_filled st (Ok f) e = e
+state_filled st (Err r) e = tt
 
 module _ {d : Rebuilding} {st : State} {image m n : List ℕ} {a b : Result Filled Refusal} where
-  pub rebuild_value_one : RebuildingSaid d st image a → m ≡ written st image a → RebuildingSaid d st image b → n ≡ written st image b → (a ≡ b) × (m ≡ n)
+  pub rebuild_value_one : RebuildingSaid d st image a → m ≡ restored_by st image a → RebuildingSaid d st image b → n ≡ restored_by st image b → (a ≡ b) × (m ≡ n)
   rebuild_value_one p k q l =
       let answers : a ≡ b =
-      same (λ a. refl) (λ a b e f g. filled (λ s t. record { stripe = s; state = t }) (ap (λ (x : Reply). x.first) e) (f.0 ∙ sym g.0))
-      a b p.reply q.reply p.filled q.filled in
-      (answers, k ∙ ap (written st image) answers ∙ sym l)
+      same (λ a. refl) (λ a b e f g. filled (λ s t. record { stripe = s; state = t }) (ap (λ (x : Reply). x.first) e) (f ∙ sym g))
+      a b p.reply q.reply (state_filled st a p.state_left) (state_filled st b q.state_left) in
+      (answers, k ∙ ap (restored_by st image) answers ∙ sym l)
 
 -- ---- placement, and what a step does
 

@@ -91,7 +91,12 @@ pub(crate) fn packed<A: Values>(answer: Result<A, Refusal>) -> u64
             let (first, second) = accepted.values();
             pack(0, first, second)
         }
-        Err(Refusal::ParityDisagrees { stripe, byte }) => pack(13, stripe, byte),
-        Err(refusal) => pack(refusal.number(), 0, 0),
+        Err(refusal) => {
+            let (first, second) = match refusal {
+                Refusal::ParityDisagrees { stripe, byte } => (stripe, byte),
+                _ => (0, 0),
+            };
+            pack(refusal.number(), first, second)
+        }
     }
 }

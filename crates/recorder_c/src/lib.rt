@@ -1,5 +1,6 @@
 // The functions of `include/coppicetune.h`, as a static library for C programs: each calls the function of its name in `recorder`, whose clauses it
-// repeats. Here placement and the scan of an array with nothing open, by numbers and bytes; the whole engine is in `engine`.
+// repeats. Here placement and the scan of an array with nothing open, by numbers and bytes; the whole engine is in `engine`. (Each function stands
+// twice, as a crate is a library or a static library, and `client` rests on `recorder` as a library: docs/DECISIONS.md, 15 and 59.)
 // Assumes nothing.
 #![tactic(auto)]
 

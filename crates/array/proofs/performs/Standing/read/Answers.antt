@@ -19,9 +19,9 @@ slice_bounds-copy-end c =
 
 pub cell-requires : goal.cell-requires
 cell-requires c =
-    (card_below c.args.self.row.of.state c.args.self.row.number c.args.self.r c.args.work.now c.args.image.now (standing_of c.args.self c.args.work.now c.args.image.now c.requires.0) c.args.p _ c.requires.1 c.card_at-card.ensures, c.args.self.stripe_below, c.requires.0.image_right)
+    (card_below c.args.self.row.of.state c.args.self.row.number c.args.self.r c.args.work.now c.args.image.now (standing_of c.args.self c.args.work.now c.args.image.now c.requires.0) c.args.p _ c.requires.1 c.card.ensures, c.args.self.stripe_below, c.requires.0.image_right)
 
 pub returns : goal.returns
 returns c =
     performed_read c.args.self.row.of.state c.args.self.row.number c.args.self.r c.args.work.now c.args.image.now (standing_of c.args.self c.args.work.now c.args.image.now c.requires.0) c.args.p _ _ _ _ c.requires.1
-    c.card_at-card.ensures c.read_at-at.ensures c.cell.ensures c.copy.ensures
+    c.card.ensures c.read_at-at.ensures c.cell.ensures c.copy.ensures

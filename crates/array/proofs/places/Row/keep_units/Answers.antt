@@ -1,10 +1,10 @@
 -- `array::places::Row::keep_units` meets its contract: after u turns the units below u are kept.
 -- Assumes nothing.
 use native.Mathlib.Omega.{arith}
-use Rattle.terms.proofs.Bits.{bit_odd, bit_even}
+use mathlib.Core.Path.{sym, ◌∙◌}
 use Rattle.array.proofs.Units.{turned_none, turned_pass, keep_more, keep_room}
 use Rattle.array.proofs.places.Row.keep_units.Goals as goal
-use Rattle.array.proofs.places.Row.keep_units.Goals.{then-mask-u-eq1, else-mask-u-eq1}
+use Rattle.array.proofs.places.Row.keep_units.Goals.{then-has, else-has}
 
 pub loop-u-init : goal.loop-u-init
 loop-u-init c = turned_none _ _ _ _ _
@@ -17,19 +17,19 @@ overflow_add-from c =
       arith,
       c.well_formed,
       keep_room a.self.of.state a.self.number a.mask a.payload.now a.work.now a.self.of.limits a.self.below c.requires _ _ k.work k.from k.u k.invariant
-          (bit_odd k.u a.mask c.if-mask-u-eq1.true),
+          (sym c.has.ensures ∙ c.if-has.true),
     )
 
 pub loop-u-preserved : goal.loop-u-preserved
 loop-u-preserved c =
     let a = c.args in
     let k = c.loop-u in
-    elim c.if-mask-u-eq1.branch [
-      | then-mask-u-eq1 w ↦
+    elim c.if-has.branch [
+      | then-has w ↦
           rw (w.work-is, w.from-is)
           (keep_more a.self.of.state a.self.number a.mask a.payload.now a.work.now a.self.of.limits a.self.below c.requires k.work k.from k.u k.invariant
-          c.loop-u-test.true (bit_odd k.u a.mask w.if-mask-u-eq1.true) _ _ w.write_at-at.ensures w.carry.ensures)
-      | else-mask-u-eq1 w ↦
+          (rw c.units-u-end.ensures at c.loop-u-test.true) (sym c.has.ensures ∙ w.if-has.true) _ _ w.write_at-at.ensures w.carry.ensures)
+      | else-has w ↦
           rw (w.work-is, w.from-is)
-          (turned_pass _ _ _ _ _ k.work k.from k.u k.invariant c.loop-u-test.true (bit_even k.u a.mask w.if-mask-u-eq1.false) (rw (bit_even k.u a.mask w.if-mask-u-eq1.false)))
+          (turned_pass _ _ _ _ _ k.work k.from k.u k.invariant (rw c.units-u-end.ensures at c.loop-u-test.true) (sym c.has.ensures ∙ w.if-has.false) (rw (sym c.has.ensures ∙ w.if-has.false)))
     ]
