@@ -14,10 +14,10 @@ pub fn restore(state: State, card: u64, stripe: u64, image: &mut [u8])
     if !state.in_image(card, stripe) {
         return;
     }
+    let mut sum = ZEROS;
     let Some(cells) = Cells::whole(state, image) else {
         return;
     };
-    let mut sum = ZEROS;
     cells.add_others(&mut sum, card as usize, stripe as usize);
     let size = state.block as usize;
     carry(image, state.cell_at(card, stripe), &sum, 0, size);
