@@ -9,6 +9,12 @@ mod parts;
 ghost use Rattle.std.specs.Prelude.{◌≡◌};
 ghost use Rattle.block.specs.Blocks.{copied, added};
 
+// A sum of blocks. It has the bytes of the longest block; a shorter one is added to its front.
+pub type Sum = [u8; 512];
+
+// What a sum starts from: a block of 512 zero bytes.
+pub const ZEROS: Sum = [0; 512];
+
 // Copies src to the front of dst, as many bytes as both have.
 pub fn copy(dst: &mut [u8], src: &[u8])
     ensures { dst.new ≡ copied dst.old src.now }
@@ -18,7 +24,7 @@ pub fn copy(dst: &mut [u8], src: &[u8])
 }
 
 // Adds a block to the sum. By index: of a loop over `iter_mut` zipped with the block no invariant can name the bytes that it wrote.
-pub fn add(sum: &mut [u8; 512], block: &[u8])
+pub fn add(sum: &mut Sum, block: &[u8])
     ensures { sum.new ≡ added sum.old block.now }
 {
     let n = sum.len().min(block.len());

@@ -11,6 +11,7 @@ fn has_part(slice: &[u8], at: usize, size: usize) -> bool
 }
 
 // Copies size bytes from a place of src to a place of dst; nothing where either has no room for them.
+// (By places and a size, and no two slices of one length: it answers any, as `carried` says.)
 pub fn carry(dst: &mut [u8], at: usize, src: &[u8], from: usize, size: usize)
     ensures { dst.new ≡ carried dst.old at src.now from size }
 {

@@ -9,6 +9,7 @@ ghost use Rattle.parity.specs.Parity.{cell, looked};
 ghost use Rattle.terms.specs.Lists.{among};
 ghost use Rattle.terms.specs.Reply.{refused, refusal_reply, done_reply};
 
+use block::{Sum, ZEROS};
 use geometry::State;
 use terms::Refusal;
 
@@ -52,7 +53,7 @@ impl<'a> Cells<'a> {
     }
 
     // The block of a card in a stripe: a part of the image that starts in its middle.
-    fn cell(self, stripe: usize, card: usize) -> &'a [u8]
+    fn cell(self, card: usize, stripe: usize) -> &'a [u8]
         requires { (stripe < self.stripes) × (card < self.cards) }
         ensures { result.now ≡ cell self.entry.stripes self.entry.size self.entry.image.now stripe card }
     {
@@ -62,8 +63,8 @@ impl<'a> Cells<'a> {
     }
 
     // Adds the blocks of the first N cards beside one in a stripe to the sum, all in one pass, and tells whether its bytes there are all zero. The
-    // inner loop has a number of turns that the compiler knows, and there is no way out of the outer one, which vectorises.
-    fn add_beside<const N: usize>(self, sum: &mut [u8; 512], stripe: usize, but: usize) -> bool
+    // inner loop has a number of turns that the compiler knows, and there is no way out of the outer one, which vectorises. (By index, as `block::add`.)
+    fn add_beside<const N: usize>(self, sum: &mut Sum, but: usize, stripe: usize) -> bool
         requires { (stripe < self.stripes) × (N ≤ self.cards) × (but < self.cards → N < self.cards) }
         ensures { (sum.new ≡ summed N (λ k. cell self.entry.stripes self.entry.size self.entry.image.now stripe (beside but k)) sum.old) × (result ≡ all_zero self.entry.size sum.new) }
     {
@@ -71,7 +72,7 @@ impl<'a> Cells<'a> {
         for i in 0..self.size {
             let mut byte = sum[i];
             for k in 0..N {
-                byte ^= self.cell(stripe, beside(but, k))[i];
+                byte ^= self.cell(beside(but, k), stripe)[i];
             }
             sum[i] = byte;
             any |= byte;
@@ -80,17 +81,18 @@ impl<'a> Cells<'a> {
     }
 
     // Adds the blocks of all cards but one in a stripe to the sum.
-    pub(crate) fn add_others(self, sum: &mut [u8; 512], stripe: usize, but: usize)
+    // (A match as in `scan`, since a pass takes the number as a constant. One match for both, of two functions, would need a trait or a macro.)
+    pub(crate) fn add_others(self, sum: &mut Sum, but: usize, stripe: usize)
         requires { (stripe < self.stripes) × (but < self.cards) }
         ensures { sum.new ≡ summed (self.entry.cards - 1) (λ k. cell self.entry.stripes self.entry.size self.entry.image.now stripe (beside but k)) sum.old }
     {
         match self.cards {
-            3 => self.add_beside::<2>(sum, stripe, but),
-            4 => self.add_beside::<3>(sum, stripe, but),
-            5 => self.add_beside::<4>(sum, stripe, but),
-            6 => self.add_beside::<5>(sum, stripe, but),
-            7 => self.add_beside::<6>(sum, stripe, but),
-            _ => self.add_beside::<7>(sum, stripe, but),
+            3 => self.add_beside::<2>(sum, but, stripe),
+            4 => self.add_beside::<3>(sum, but, stripe),
+            5 => self.add_beside::<4>(sum, but, stripe),
+            6 => self.add_beside::<5>(sum, but, stripe),
+            7 => self.add_beside::<6>(sum, but, stripe),
+            _ => self.add_beside::<7>(sum, but, stripe),
         };
     }
 
@@ -102,17 +104,17 @@ impl<'a> Cells<'a> {
         ensures { done_reply result ≡ looked self.entry.cards self.entry.stripes self.entry.size self.entry.image.now (among skip) }
     {
         let mut answer = Ok(());
-        let mut sum = [0u8; 512];
+        let mut sum = ZEROS;
         'scan: for stripe in 0..self.stripes {
             if skip.contains(&(stripe as u64)) {
                 continue;
             }
             // beside the number after the last card's are all of them; with N in its place a pass over 8 cards took 29 % more instructions
-            if self.add_beside::<N>(&mut sum, stripe, self.cards) {
+            if self.add_beside::<N>(&mut sum, self.cards, stripe) {
                 continue;
             }
-            for byte in 0..self.size {
-                if sum[byte] != 0 {
+            for (byte, b) in sum[..self.size].iter().enumerate() {
+                if *b != 0 {
                     let (stripe, byte) = (stripe as u64, byte as u64);
                     answer = Err(Refusal::ParityDisagrees { stripe, byte });
                     break 'scan;

@@ -4,7 +4,7 @@ ghost use Rattle.std.specs.Prelude.{◌≡◌};
 ghost use Rattle.parity.specs.Rest.{restored_in};
 
 use crate::image::Cells;
-use block::carry;
+use block::{ZEROS, carry};
 use geometry::State;
 
 // Restores a card's block of a stripe in the image; leaves the image where there is no such block, or it is of another length.
@@ -14,11 +14,11 @@ pub fn restore(state: State, card: u64, stripe: u64, image: &mut [u8])
     if !state.in_image(card, stripe) {
         return;
     }
-    let mut sum = [0u8; 512];
-    match Cells::whole(state, image) {
-        Some(cells) => cells.add_others(&mut sum, stripe as usize, card as usize),
-        None => return,
-    }
+    let mut sum = ZEROS;
+    let Some(cells) = Cells::whole(state, image) else {
+        return;
+    };
+    cells.add_others(&mut sum, card as usize, stripe as usize);
     let size = state.block as usize;
     carry(image, state.cell_at(card, stripe), &sum, 0, size);
 }

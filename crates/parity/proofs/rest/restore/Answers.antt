@@ -16,8 +16,8 @@ returns-then-not-in_image c = restored_none c.args.state c.args.image.now c.args
 pub whole-requires : goal.whole-requires
 whole-requires c = legal_in_image c.args.state c.args.card c.args.stripe (sym c.in_image.ensures ∙ c.if-not-in_image.false)
 
-pub returns-in-None : goal.returns-in-None
-returns-in-None c = restored_wrong c.args.state c.args.image.now c.args.card c.args.stripe c.in-None.ensures
+pub returns-in_default : goal.returns-in_default
+returns-in_default c = restored_wrong c.args.state c.args.image.now c.args.card c.args.stripe c.in_default.ensures
 
 pub add_others-requires : goal.add_others-requires
 add_others-requires c =

@@ -1,9 +1,11 @@
 -- `Cells::scan_all` meets its contract. The outer loop's invariant: no stripe below `stripe` is to be reported, the sum has zero bytes, and nothing is
 -- answered yet. The inner one's: the first bytes of the stripe's sum are zero.
 -- Assumes nothing.
+use Prim.Native.Nat.{◌<◌}
 use mathlib.Core.Path.{◌≡◌, sym, ap, ◌∙◌}
 use native.Mathlib.Omega.{arith}
 use borrow.Author.Count.{below_more}
+use Rattle.std.proofs.lemmas.List.{get_or-take, length-take-le}
 use Rattle.terms.specs.Reply.{done_reply}
 use Rattle.parity.proofs.Found.{Looking, wrong_in, reports_passed, reports_right, reports_wrong, sum_right, sum_clear, sum_wrong_byte, looked_right, looked_wrong}
 use Rattle.parity.proofs.Passing.{among_is}
@@ -37,21 +39,26 @@ scan-preserved g c =
     let l : Looking = looking cells.cards cells.stripes cells.size cells.image.now c.args.skip in
     let right = sum_right l cells.fitting at.stripe c.scan-test.true at.sum c.add_beside.new.sum at.invariant.1
     (c.add_beside.ensures.0 ∙ all_cards cells.stripes cells.size cells.image.now at.stripe g.row.N cells.cards at.sum c.requires)
-    (λ k m. c.loop-byte.invariant.0 k (omega arith)) in
+    (λ k m.
+    sym (get_or-take cells.size c.add_beside.new.sum k 0 m)
+    ∙ c.loop-byte.invariant.0 k (omega (arith, length-take-le cells.size c.add_beside.new.sum (omega (arith, cells.fitting.block))))) in
     (below_more _ _ at.invariant.0 (reports_right l at.stripe right.0), right.1, c.loop-byte.invariant.1)
 
-pub returns-then-sum-byte-ne0 : goal.returns-then-sum-byte-ne0
-returns-then-sum-byte-ne0 g c =
+pub returns-then-b-ne0 : goal.returns-then-b-ne0
+returns-then-b-ne0 g c =
     let at = c.scan in
     let cells = c.args.self in
     let byte = c.loop-byte.byte in
+    let sum = c.add_beside.new.sum in
     let l : Looking = looking cells.cards cells.stripes cells.size cells.image.now c.args.skip in
+    let inside : byte < cells.size = omega (arith, length-take-le cells.size sum (omega (arith, cells.fitting.block))) in
     let wrong : wrong_in l at.stripe ≡ byte =
-    sum_wrong_byte l cells.fitting at.stripe c.scan-test.true at.sum c.add_beside.new.sum at.invariant.1
+    sum_wrong_byte l cells.fitting at.stripe c.scan-test.true at.sum sum at.invariant.1
     (c.add_beside.ensures.0 ∙ all_cards cells.stripes cells.size cells.image.now at.stripe g.row.N cells.cards at.sum c.requires)
-    byte c.loop-byte-test.true c.if-sum-byte-ne0.true c.loop-byte.invariant.0 in
+    byte inside (λ z. c.if-b-ne0.true (get_or-take cells.size sum byte 0 inside ∙ z))
+    (λ k m. sym (get_or-take cells.size sum k 0 (omega arith)) ∙ c.loop-byte.invariant.0 k m) in
     looked_wrong l at.stripe byte c.scan-test.true
-    (reports_wrong l at.stripe (sym (among_is c.args.skip at.stripe) ∙ sym c.contains.ensures.value ∙ c.if-contains.false) (rw wrong c.loop-byte-test.true))
+    (reports_wrong l at.stripe (sym (among_is c.args.skip at.stripe) ∙ sym c.contains.ensures.value ∙ c.if-contains.false) (rw wrong inside))
     at.invariant.0 wrong
 
 pub returns-after-scan : goal.returns-after-scan

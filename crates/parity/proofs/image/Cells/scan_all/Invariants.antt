@@ -18,7 +18,7 @@ looking cards stripes size image skip =
     record { cards = cards; stripes = stripes; block = size; image = image; pass = among skip }
 
 abbrev pub invariant-loop-byte : goal.invariant-loop-byte
-invariant-loop-byte g l = ((k : ℕ) → k < l.byte → get_or l.sum k 0 ≡ 0) × (l.answer ≡ Ok tt)
+invariant-loop-byte g l = ((k : ℕ) → k < l.byte → get_or l.b-items k 0 ≡ 0) × (l.answer ≡ Ok tt)
 
 abbrev pub invariant-scan : goal.invariant-scan
 invariant-scan g l =
