@@ -52,13 +52,24 @@ abbrev pub state_after : State → Result Filled Refusal → State
 state_after st (Ok f) = f.state
 state_after st (Err r) = st
 
--- the image once the block of this answer is restored in it; if refused, none is
+-- the image after a rebuild step of this answer: the stripe's block is restored in it; if refused, none is
+abbrev pub written_by : State → Result ℕ Refusal → List ℕ → List ℕ
+written_by st (Ok s) image = restored_in st image st.out s
+written_by st (Err r) image = image
+
+-- the same of what rebuild hands back
 abbrev pub restored_by : State → List ℕ → Result Filled Refusal → List ℕ
-restored_by st image (Ok f) = restored_in st image st.out f.stripe
-restored_by st image (Err r) = image
+restored_by st image (Ok f) = written_by st (Ok f.stripe) image
+restored_by st image (Err r) = written_by st (Err r) image
 
 -- rebuild, before the block is written: its answer, the state, and the image that there is once the block is restored in it
 pub record RebuildingSaid (d : Rebuilding) (st : State) (image : List ℕ) (answer : Result Filled Refusal) : Type 0 where
   pub reply : reply_of (λ f. accepted f.stripe 0) answer ≡ d.reply
   pub state_left : state_after st answer ≡ d.state
   pub image_left : restored_by st image answer ≡ d.image
+
+-- rebuild: its answer, the state, the old one if refused, and the image
+pub record RebuildingIs (d : Rebuilding) (st : State) (answer : Result Filled Refusal) (image : List ℕ) : Type 0 where
+  pub reply : reply_of (λ f. accepted f.stripe 0) answer ≡ d.reply
+  pub state_left : state_after st answer ≡ d.state
+  pub image_left : image ≡ d.image

@@ -6,7 +6,7 @@
 pub use admits::admit_by;
 pub use collects::collect_by;
 pub use opens::open_by;
-pub use rebuilds::{rebuild_image, rebuild_next};
+pub use rebuilds::{rebuild_by, rebuild_image, rebuild_next};
 pub use scans::scan_by;
 pub use stepping::step_by;
 

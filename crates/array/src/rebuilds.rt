@@ -2,8 +2,7 @@
 // Assumes nothing.
 ghost use Rattle.std.specs.Prelude.{◌≡◌};
 ghost use Rattle.terms.specs.Reply.{refused, done_reply};
-ghost use Rattle.parity.specs.Rest.{restored_in};
-ghost use Rattle.array.specs.Outcomes.{RebuildingSaid};
+ghost use Rattle.array.specs.Outcomes.{RebuildingIs, RebuildingSaid, written_by};
 ghost use Rattle.array.specs.Rebuilding.{rebuilding_by};
 ghost use Rattle.array.specs.Refusals.{rebuild_refusal};
 
@@ -43,9 +42,20 @@ pub fn rebuild_next(state: State, survey: Survey, image: &[u8]) -> Result<Filled
     })
 }
 
-// Writes the block of a rebuild step that fills this stripe, on the state before the step.
-pub fn rebuild_image(state: State, stripe: u64, image: &mut [u8])
-    ensures { image.new ≡ restored_in state image.old state.out stripe }
+// Writes the block of a rebuild step of this answer, on the state before the step; nothing where it was refused.
+pub fn rebuild_image(state: State, answer: Result<u64, Refusal>, image: &mut [u8])
+    ensures { image.new ≡ written_by state answer image.old }
 {
-    restore(state, state.out, stripe, image)
+    if let Ok(stripe) = answer {
+        restore(state, state.out, stripe, image);
+    }
+}
+
+// Fills the stripe at the fill place on the card that is out, by a survey of the table: the stripe, and the state with the fill moved on.
+pub fn rebuild_by(state: State, survey: Survey, image: &mut [u8]) -> Result<Filled, Refusal>
+    ensures { RebuildingIs (rebuilding_by state survey image.old) state result image.new }
+{
+    let filled = rebuild_next(state, survey, image)?;
+    rebuild_image(state, Ok(filled.stripe), image);
+    Ok(filled)
 }

@@ -31,7 +31,7 @@ use Rattle.array.specs.Admission.{AdmissionBy, Admission}
 use Rattle.array.specs.Answers.{step_values}
 use Rattle.array.specs.Collection.{CollectionBy, Collection}
 use Rattle.array.specs.Opening.{OpeningBy, Opening}
-use Rattle.array.specs.Outcomes.{opened_state, state_after, restored_by, OpeningIs, AdmissionIs, SteppingIs, CollectionIs, RebuildingSaid}
+use Rattle.array.specs.Outcomes.{opened_state, state_after, OpeningIs, AdmissionIs, SteppingIs, CollectionIs, RebuildingSaid, RebuildingIs}
 use Rattle.array.specs.Rebuilding.{Rebuilding}
 use Rattle.array.specs.Stepping.{SteppingBy, Stepping}
 use Rattle.array.specs.declared.answers.Changed.{Changed}
@@ -158,13 +158,20 @@ state_filled : (st : State) (a : Result Filled Refusal) {s : State} → state_af
 state_filled st (Ok f) e = e
 state_filled st (Err r) e = tt
 
-module _ {d : Rebuilding} {st : State} {image m n : List ℕ} {a b : Result Filled Refusal} where
-  pub rebuild_value_one : RebuildingSaid d st image a → m ≡ restored_by st image a → RebuildingSaid d st image b → n ≡ restored_by st image b → (a ≡ b) × (m ≡ n)
-  rebuild_value_one p k q l =
+-- before the block is written and with it
+module _ {d : Rebuilding} {st : State} {image : List ℕ} {a b : Result Filled Refusal} where
+  pub rebuild_said_one : RebuildingSaid d st image a → RebuildingSaid d st image b → a ≡ b
+  rebuild_said_one p q =
+      same (λ a. refl) (λ a b e f g. filled (λ s t. record { stripe = s; state = t }) (ap (λ (x : Reply). x.first) e) (f ∙ sym g))
+      a b p.reply q.reply (state_filled st a p.state_left) (state_filled st b q.state_left)
+
+module _ {d : Rebuilding} {st : State} {m n : List ℕ} {a b : Result Filled Refusal} where
+  pub rebuild_value_one : RebuildingIs d st a m → RebuildingIs d st b n → (a ≡ b) × (m ≡ n)
+  rebuild_value_one p q =
       let answers : a ≡ b =
       same (λ a. refl) (λ a b e f g. filled (λ s t. record { stripe = s; state = t }) (ap (λ (x : Reply). x.first) e) (f ∙ sym g))
       a b p.reply q.reply (state_filled st a p.state_left) (state_filled st b q.state_left) in
-      (answers, k ∙ ap (restored_by st image) answers ∙ sym l)
+      (answers, p.image_left ∙ sym q.image_left)
 
 -- ---- placement, and what a step does
 

@@ -132,6 +132,6 @@ pub fn rebuild(state: &mut State, table: &[Record], image: &mut [u8]) -> Result<
     let survey = surveyed(table, old, NO_PLACE);
     let filled = array::rebuild_next(old, survey, image)?;
     *state = filled.state;
-    array::rebuild_image(old, filled.stripe, image);
+    array::rebuild_image(old, Ok(filled.stripe), image);
     Ok(filled.stripe)
 }
