@@ -1,7 +1,7 @@
 // Placement by the layout's number, both ways, and the one answer to which card is missing in a stripe.
 // Assumes nothing.
-ghost use Rattle.std.specs.Prelude.{◌≡◌, cond, ◌*◌, ◌/◌, ◌%◌, ◌≤◌, ◌<◌, leb};
-ghost use Rattle.terms.specs.Reply.{accepted, refused};
+ghost use Rattle.std.specs.Prelude.{◌≡◌, true, false, IfOk, IfErr, cond, ◌+◌, ◌-◌, ◌*◌, ◌/◌, ◌%◌, ◌≤◌, ◌<◌, leb, ltb};
+ghost use Rattle.terms.specs.Reply.{accepted, refused, refusal_reply};
 ghost use Rattle.geometry.specs.Level5.{card_at5, position_of5};
 ghost use Rattle.geometry.specs.Placement.{card_at, position_of, card_in, missing_at, out_in};
 ghost use Rattle.geometry.specs.Answers.{places_of, beyond_places, placed_reply, place_reply, held_reply, block_at_reply};
@@ -9,35 +9,36 @@ ghost use Rattle.geometry.specs.Answers.{places_of, beyond_places, placed_reply,
 use crate::{Geometry, Held, LEVEL_4, NO_FILL, NONE, Placed, State};
 use terms::Refusal;
 
-// The card of a position of a stripe in layout 5. What is left of the turn is taken before the test, so that the compiler makes no branch of it.
-#[tactic(auto, using(crate::proofs::Turns::card_before, crate::proofs::Turns::card_from))]
+// The number so many steps back from x, in a ring of the numbers below `cards`. What is past the last step is taken before the test, so that the
+// compiler makes no branch of it.
+fn back(cards: u64, by: u64, x: u64) -> u64
+    requires { (x < cards) × (by ≤ cards) }
+    ensures { result ≡ cond (ltb x by) (cards - by + x) (x - by) }
+{
+    let past = cards - by;
+    if x < by { past + x } else { x - by }
+}
+
+// The card of a position of a stripe in layout 5.
+#[tactic(auto, using(crate::proofs::Turns::turn_below, crate::proofs::Turns::card_before, crate::proofs::Turns::card_from))]
 fn rotated_card(cards: u64, stripe: u64, position: u64) -> u64
     requires { position < cards }
     ensures { result ≡ card_at5 cards stripe position }
 {
-    let turn = stripe % cards;
-    let rest = cards - turn;
-    if position < turn {
-        return rest + position;
-    }
-    position - turn
+    back(cards, stripe % cards, position)
 }
 
 // The position of a card in a stripe of layout 5.
-#[tactic(auto, using(crate::proofs::Turns::position_before, crate::proofs::Turns::position_from))]
+#[tactic(auto, using(crate::proofs::Turns::turn_below, crate::proofs::Turns::position_before, crate::proofs::Turns::position_from))]
 fn rotated_position(cards: u64, stripe: u64, card: u64) -> u64
     requires { card < cards }
     ensures { result ≡ position_of5 cards stripe card }
 {
-    let turn = stripe % cards;
-    let rest = cards - turn;
-    if card < rest {
-        return card + turn;
-    }
-    card - rest
+    back(cards, cards - stripe % cards, card)
 }
 
-// The card of a position of a stripe, by the layout.
+// The card of a position of a stripe, by the layout. (Numbers and no State, here and below: `card_in` and `missing_at`, by which graphs are chosen, are
+// of them.)
 #[tactic(auto, unfolding(crate::specs::Placement::card_at, crate::specs::Level4::card_at4))]
 fn card_of(cards: u64, layout: u64, stripe: u64, position: u64) -> u64
     requires { position < cards }
@@ -144,14 +145,23 @@ impl Geometry {
         Geometry::places(self.cards, self.stripes, self.layout).beyond(NONE)
     }
 
+    // Whether placement may be asked of these cards, stripes and layout, or why not.
+    fn placeable(self) -> Result<(), Refusal>
+        ensures ok { IfOk result (λ done. beyond_places self.cards self.stripes self.layout ≡ false) }
+        ensures err { IfErr result (λ r. (beyond_places self.cards self.stripes self.layout ≡ true) × (refusal_reply r ≡ refused 1)) }
+    {
+        if self.beyond_places() {
+            return Err(Refusal::BeyondLimits);
+        }
+        Ok(())
+    }
+
     // The card and the stripe of a logical block: layout 4 deals the blocks to the first n cards, layout 5 to all N.
     #[tactic(auto, using(crate::proofs::Answered::dealing), unfolding(crate::specs::Answers::place_reply, crate::specs::Answers::place_refusal, terms::specs::Reply::first_row))]
     pub fn place(self, block: u64) -> Result<Placed, Refusal>
         ensures { placed_reply result ≡ place_reply self.cards self.stripes self.layout block }
     {
-        if self.beyond_places() {
-            return Err(Refusal::BeyondLimits);
-        }
+        self.placeable()?;
         let Geometry {
             cards,
             stripes,
@@ -171,18 +181,17 @@ impl Geometry {
     pub fn block_at(self, card: u64, stripe: u64) -> Result<Held, Refusal>
         ensures { held_reply result ≡ block_at_reply self.cards self.stripes self.layout card stripe }
     {
-        if self.beyond_places() {
-            return Err(Refusal::BeyondLimits);
-        }
+        self.placeable()?;
         if card >= self.cards || stripe >= self.stripes {
             return Err(Refusal::OutOfRange);
         }
         let units = self.cards - 1;
         let position = position_of(self.cards, self.layout, stripe, card);
         if position == units {
-            return Ok(Held::Parity);
+            Ok(Held::Parity)
+        } else {
+            let number = units * stripe + position;
+            Ok(Held::Block(number))
         }
-        let number = units * stripe + position;
-        Ok(Held::Block(number))
     }
 }
