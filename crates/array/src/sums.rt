@@ -6,12 +6,12 @@ ghost use Rattle.block.specs.Blocks.{summed, carried};
 ghost use Rattle.geometry.specs.Store.{work_size};
 
 use crate::places::Row;
-use block::{add, carry};
+use block::{Sum, ZEROS, add, carry};
 
 // Adds the blocks of a set of positions, which stand one behind the other from a place on. (`chunks_exact` would take the part cut out first and
 // `enumerate` for the positions: no plainer. And `graph::has` tests that p is below 64 too: with it a small write takes 1 % more instructions.)
 #[tactic(auto, using(crate::proofs::Adding::block_ends), unfolding(terms::specs::Lists::part))]
-fn add_taken(sum: &mut [u8; 512], taken: u64, first: usize, cards: u64, size: usize, work: &[u8])
+fn add_taken(sum: &mut Sum, taken: u64, first: usize, cards: u64, size: usize, work: &[u8])
     requires { (cards ≤ 8) × (first + cards * size ≤ length work.now) }
     ensures { sum.new ≡ summed cards (taken_if taken first size work.now) sum.old }
 {
@@ -34,7 +34,7 @@ impl Row {
         let size = state.block as usize;
         let read = self.read_at(0);
         let new = self.write_at(0);
-        let mut sum = [0u8; 512];
+        let mut sum = ZEROS;
         add_taken(&mut sum, reads, read, state.cards, size, work);
         add_taken(&mut sum, news, new, state.cards, size, work);
         carry(work, at, &sum, 0, size);
