@@ -1,15 +1,12 @@
 -- Laws of tests and of tables of rows: a conjunction taken apart and put together, and which row gives the number.
 -- Assumes nothing.
-use Prim.Native.Nat.{ℕ, ◌≤◌}
+use Prim.Native.Nat.{ℕ}
 use mathlib.Core.Bool.{Bool, true, false, cond, not, ◌&&◌, ◌||◌}
 use mathlib.Core.List.{List, ◌∷◌}
 use mathlib.Core.Logic.{◌⊎◌, inl, inr}
 use mathlib.Core.Path.{◌≡◌, refl, sym, ap}
 use native.Mathlib.Omega.{arith}
-use lib.Dec.{leb}
-use borrow.Author.Tests.{leb-true, le-leb}
 use Rattle.terms.specs.Reply.{Row, row, first_row}
-use Rattle.terms.specs.Sets.{within}
 
 pub true≢false : {X : Type 0} → true ≡ false → X
 true≢false e = absurd (let z : ◌≡◌ {A = ℕ} 0 1 = cc in omega arith)
@@ -55,18 +52,6 @@ or_not_intro false b h = refl
 pub truth : (a : Bool) → (a ≡ true) ⊎ (a ≡ false)
 truth true = inl refl
 truth false = inr refl
-
-pub within_low : (lo hi x : ℕ) → within lo hi x ≡ true → lo ≤ x
-unfolding within
-within_low lo hi x e = leb-true lo x (and_left (leb lo x) (leb x hi) e)
-
-pub within_high : (lo hi x : ℕ) → within lo hi x ≡ true → x ≤ hi
-unfolding within
-within_high lo hi x e = leb-true x hi (and_right (leb lo x) (leb x hi) e)
-
-pub within_intro : (lo hi x : ℕ) → lo ≤ x → x ≤ hi → within lo hi x ≡ true
-unfolding within
-within_intro lo hi x p q = and_both (leb lo x) (leb x hi) (le-leb lo x p) (le-leb x hi q)
 
 -- a row whose test fails is passed over
 pub first_row_skip : (t : Bool) (k : ℕ) (rs : List Row) → t ≡ false → first_row (row t k ∷ rs) ≡ first_row rs
