@@ -76,7 +76,8 @@ impl Plan {
         self.few().is_some_and(|few| few.complete(done))
     }
 
-    // Judges the done steps. Inlined, since a plan by value is copied for each call: not inlined, a table is found sound in 21 % more instructions.
+    // Judges the done steps. Inlined, since a plan by value is copied for each call: not inlined, a table is found sound in 21 % more
+    // instructions.
     #[inline(always)]
     pub fn judge(self, done: u64) -> Judged
         ensures { result ≡ judged self.units self.graph self.mask self.missing done }

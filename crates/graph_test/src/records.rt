@@ -48,7 +48,8 @@ fn record(numbers: &[u64], i: usize) -> Record
     }
 }
 
-// What one look at the table of all whole records finds. (By number and no `chunks_exact`: `record_from` reads a record by its number.)
+// What one look at the table of all whole records finds. (By number and no `chunks_exact`: `seen` takes the record's number, and
+// `record_from` goes by it.)
 fn survey(numbers: &[u64], all: &[u64]) -> Survey
     ensures { result ≡ survey_from numbers.now all.now }
 {
