@@ -24,6 +24,7 @@ pub(crate) fn unit_of(block: u64) -> u64 {
 }
 
 // The state, the table, the work store and the image.
+// (What prints goes beside the desk: a desk that held it would be generic over it, and so would each scene's desk.)
 #[derive(Drop)]
 pub struct Desk {
     state: State,
@@ -121,6 +122,7 @@ impl Desk {
     }
 
     // Takes step k of record i, and tells what came of it where it is aloud.
+    // (A bool and no enum: tried, and with an enum of two cases the check of what takes it was two fifths longer.)
     fn step(&mut self, rt: &impl Print, i: u64, k: u64, aloud: bool) -> io::Result<()> {
         let answer = calls::step(
             self.state,
