@@ -29,7 +29,8 @@ pub(crate) struct Standing {
     ghost x_below: { sums_to_read r.graph ≡ true → x < row.of.state.cards },
 }
 
-// (That both stores are of their lengths each method says: they are lent by turns as `&` and `&mut`, so that no field could hold them.)
+// (Each method that is lent both stores says that they are of their lengths: they are lent by turns as `&` and `&mut`, so that no field could hold
+// them.)
 impl Standing {
     // The card of a position in the record's stripe.
     fn card(self, p: u64) -> u64
