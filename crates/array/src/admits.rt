@@ -17,7 +17,8 @@ use terms::Refusal;
 
 impl Row {
     // Copies a write's units, ascending, each to that unit's block to write of the record. (One function for this and `hand_over` would take the
-    // side that is packed as a closure over what is lent, and a contract for it: no plainer.)
+    // side that is packed as a closure over what is lent, and a contract for it: no plainer. The place in the payload runs along by hand: a chain would filter
+    // the units, zip them with `chunks_exact` and copy as here.)
     #[tactic(auto, using(crate::proofs::Within::within, crate::proofs::Units::turned_all), unfolding(crate::specs::Admission::keep_units))]
     fn keep_units(self, mask: u64, payload: &[u8], work: &mut [u8])
         requires { Keeping self.of.state mask payload.now work.old }

@@ -16,7 +16,8 @@ use record::{Record, Survey, free};
 use terms::Refusal;
 
 impl Row {
-    // Copies the units that the record read, ascending, to the front of the result buffer.
+    // Copies the units that the record read, ascending, to the front of the result buffer. (One by one and with a place by hand, as `keep_units`, which says
+    // why.)
     #[tactic(auto, using(crate::proofs::Within::within, crate::proofs::Units::turned_all), unfolding(crate::specs::Collection::hand_over))]
     fn hand_over(self, mask: u64, work: &[u8], res: &mut [u8])
         requires { Keeping self.of.state mask res.old work.now }

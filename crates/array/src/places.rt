@@ -36,7 +36,8 @@ fn offset(row: u64, width: u64, column: u64, block: u64) -> usize
 }
 
 impl Legal {
-    // A state, where it is within its limits. Refusal 1.
+    // A state, where it is within its limits. Refusal 1. (The checks of admit, step and collect say too whose state they hand on: the type says that it is
+    // within its limits, and not whose.)
     pub(crate) fn new(state: State) -> Result<Legal, Refusal>
         ensures ok { IfOk result (λ legal. legal.state ≡ state) }
         ensures err { IfErr result (λ refusal. (beyond_state state ≡ true) × (refusal_reply refusal ≡ refused 1)) }
@@ -80,7 +81,8 @@ impl Legal {
         offset(card, self.state.stripes, stripe, self.state.block)
     }
 
-    // The block of a card and a stripe: a part of the image that starts in its middle.
+    // The block of a card and a stripe: a part of the image that starts in its middle. (Parity's `Cells` has one that holds the image; here it is lent by turns
+    // as `&` and `&mut`.)
     #[tactic(auto, using(geometry::proofs::Apart::cell_inside), unfolding(terms::specs::Lists::part))]
     pub(crate) fn cell<'a>(self, image: &'a [u8], card: u64, stripe: u64) -> &'a [u8]
         requires { (card < self.state.cards) × (stripe < self.state.stripes) × (length image.now ≡ image_size self.state.cards self.state.stripes self.state.block) }

@@ -58,7 +58,7 @@ fn step_check(
     Ok(legal)
 }
 
-// Whether the step is on position x.
+// Whether the step is on position x. (A match and no closures: the kinds of step are three for good.)
 #[tactic(auto, unfolding(crate::specs::Stepping::meets_out, graph::specs::Asked::action_step))]
 fn meets_out(action: Option<Action>, x: u64) -> bool
     ensures { result ≡ meets_out x (action_step action) }

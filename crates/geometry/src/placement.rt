@@ -38,7 +38,7 @@ fn rotated_position(cards: u64, stripe: u64, card: u64) -> u64
 }
 
 // The card of a position of a stripe, by the layout. (Numbers and no State, here and below: `card_in` and `missing_at`, by which graphs are chosen, are
-// of them.)
+// of them. And a function for each way, as `card_at` and `position_of` are a definition each: what both share in layout 5 is `back`.)
 #[tactic(auto, unfolding(crate::specs::Placement::card_at, crate::specs::Level4::card_at4))]
 fn card_of(cards: u64, layout: u64, stripe: u64, position: u64) -> u64
     requires { position < cards }

@@ -10,7 +10,8 @@ use crate::sets::Sets;
 use crate::steps::step_of;
 use crate::units::Few;
 
-// The units of a stripe, a graph's number, the mask, and the position missing: they make the graph's steps and their order.
+// The units of a stripe, a graph's number, the mask, and the position missing: they make the graph's steps and their order. (A number and no
+// `Graph`, as a record holds it: it may be no graph's, docs/DECISIONS.md, 61.)
 #[derive(Clone, Copy, Debug, PartialEq, Eq)]
 pub struct Plan {
     pub units: u64,

@@ -52,7 +52,8 @@ impl<'a> Cells<'a> {
         Cells::whole(state, image).ok_or(Refusal::WrongLength)
     }
 
-    // The block of a card in a stripe: a part of the image that starts in its middle.
+    // The block of a card in a stripe: a part of the image that starts in its middle. (Each that is given a stripe asks that it is one: a stripe is a number
+    // of the scan's loop, which no field holds.)
     fn cell(self, card: usize, stripe: usize) -> &'a [u8]
         requires { (stripe < self.stripes) × (card < self.cards) }
         ensures { result.now ≡ cell self.entry.stripes self.entry.size self.entry.image.now stripe card }

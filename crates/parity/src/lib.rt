@@ -16,7 +16,8 @@ use geometry::{NO_STRIPE, NONE, State};
 use image::Cells;
 use terms::Refusal;
 
-// The parity of all stripes but those that are passed over. Refusals 1, 2 and 13.
+// The parity of all stripes but those that are passed over. Refusals 1, 2 and 13. (Eight numbers and no slice, as a survey holds them: docs/DECISIONS.md,
+// 25.)
 pub fn scan_but(state: State, image: &[u8], skip: [u64; 8]) -> Result<(), Refusal>
     ensures { done_reply result ≡ look_reply state image.now (among skip) }
 {

@@ -122,7 +122,7 @@ impl Desk {
     }
 
     // Takes step k of record i, and tells what came of it where it is aloud.
-    // (A bool and no enum: tried, and with an enum of two cases the check of what takes it was two fifths longer.)
+    // (A bool: whether is all that is asked.)
     fn step(&mut self, rt: &impl Print, i: u64, k: u64, aloud: bool) -> io::Result<()> {
         let answer = calls::step(
             self.state,

@@ -71,7 +71,8 @@ impl Record {
             }
     }
 
-    // An open one lacks a step and counts at most 2n+2, one that is not open lacks none and counts at most 2n+3.
+    // An open one lacks a step and counts at most 2n+2, one that is not open lacks none and counts at most 2n+3. (`looked` has
+    // tested n.)
     fn right_count(self, n: u64, lacks_none: bool) -> bool
         requires { n ≤ 7 }
         ensures { result ≡ cond (is_open self) (not lacks_none && leb self.count (2 * n + 2)) (lacks_none && leb self.count (2 * n + 3)) }

@@ -58,7 +58,7 @@ fn put_cards(shape: Shape, stripe: u64, out: &mut [u8], at: usize) -> usize
 
 // Puts the line of a stripe at the front of out, and answers its length. Where there is no such line, or out has no room for every
 // line, it answers 0 and leaves out as it was.
-// (An Option would say that twice: what is written there, `written`, is empty.)
+// (By numbers and no `Shape`: `written`, of which its clauses are, is of them. An Option would say 0 twice: what is written there is empty.)
 pub fn write_line(cards: u64, stripes: u64, stripe: u64, out: &mut [u8]) -> usize
     ensures value { result ≡ length (written cards stripes stripe (length out.old)) }
     ensures out_after { out.new ≡ put 0 (written cards stripes stripe (length out.old)) out.old }
