@@ -120,19 +120,12 @@ impl Record {
         }
     }
 
-    // The record is sound. (Not by `self.look(state).sound`, which also places the card that is missing now: five of the eight requests of the benchmark
-    // take 1.2 to 1.9 % more time with it, and one 1.2 % less.)
-    #[tactic(auto, using(crate::proofs::Looks::busy_sound, crate::proofs::Looks::busy_by), unfolding(crate::specs::Asked::sound_record_in, crate::specs::Sound::sound_record))]
+    // The record is sound.
+    #[tactic(auto, using(crate::proofs::Looks::look_sound))]
     pub fn is_sound(self, state: State) -> bool
         ensures { result ≡ sound_record_in state self }
     {
-        if self.is_free() {
-            return self.free_sound(state);
-        }
-        let now = state.out_in(self.stripe);
-        let x = self.chosen_at(state);
-        let look = self.looked(state.cards, state.stripes, state.layout, now, x, 0);
-        look.sound
+        self.look(state).sound
     }
 
     // The position of the card that is missing now, where x is that of the one at the choice.
