@@ -1,16 +1,15 @@
 -- Laws of blocks: a whole copy, how long a sum is and what stands at each place, and sums of several blocks.
 -- Assumes nothing.
-use Prim.Native.Nat.{ℕ, zero, suc, ◌+◌, ◌-◌, ◌≤◌, ◌<◌, min}
+use Prim.Native.Nat.{ℕ, zero, suc, ◌+◌, ◌≤◌, ◌<◌}
 use mathlib.Core.Bool.{Bool, true, false, cond}
-use mathlib.Core.List.{List, ◌++◌}
+use mathlib.Core.List.{List}
 use mathlib.Core.Path.{◌≡◌, refl, sym, ap, ap₂, ◌∙◌}
 use native.Mathlib.Numerals.{add-one}
 use native.Mathlib.Omega.{arith}
-use borrow.Author.Tests.{lt-ltb, le-ltb, ltb-true, ltb-false}
+use borrow.Author.Tests.{lt-ltb, ltb-true, ltb-false}
 use lib.Bits.{bit_xor}
 use lib.Dec.{ltb}
-use lib.ListN.{length, get_or, take, drop, length-append, length-take, length-drop, length-replicate, get_or-append, get_or-replicate, get_or-eq_default}
-use lib.Seq.{get_or-take, get_or-drop, get_or-append_right}
+use lib.ListN.{length, get_or, length-replicate, get_or-replicate, get_or-eq_default}
 use Rattle.terms.specs.Lists.{changes}
 use Rattle.terms.specs.Sets.{xor_to}
 use Rattle.terms.proofs.Lists.{length_tabulate, get_d_tabulate, is_tabulate}
@@ -25,28 +24,6 @@ unfolding copied
 copied_whole a b e =
     sym (is_tabulate b (length a) (λ i. cond (ltb i (length b)) (get_or b i 0) (get_or a i 0)) 0 (sym e)
     (λ i h. rw (lt-ltb i (length b) (omega arith))))
-
--- what both have is taken from b, and the rest of a stays
-pub copied_front : (a b : List ℕ) (n : ℕ) → n ≡ min (length a) (length b) → take n b ++ drop n a ≡ copied a b
-unfolding copied
-copied_front a b n e =
-    is_tabulate (take n b ++ drop n a) (length a) (λ i. cond (ltb i (length b)) (get_or b i 0) (get_or a i 0)) 0
-    (simp (length-append, length-take, length-drop) (omega arith)) (λ i h. place i h (ltb i n) refl)
-  where
-    front : length (take n b) ≡ n
-    front = simp length-take (omega arith)
-
-    place : (i : ℕ) → i < length a → (t : Bool) → ltb i n ≡ t
-        → get_or (take n b ++ drop n a) i 0 ≡ cond (ltb i (length b)) (get_or b i 0) (get_or a i 0)
-    place i h true t =
-        let l : i < n = ltb-true i n t in
-        get_or-append (take n b) (drop n a) 0 i (omega (arith, front)) ∙ get_or-take n b i 0 l ∙ sym (rw (lt-ltb i (length b) (omega arith)))
-    place i h false t =
-        let l : n ≤ i = ltb-false i n t in
-        get_or-append_right (take n b) (drop n a) i 0 (omega (arith, front))
-        ∙ get_or-drop n a (i - length (take n b)) 0
-        ∙ ap (λ (k : ℕ). get_or a k 0) (let q : n + (i - length (take n b)) ≡ i = omega (arith, front) in q)
-        ∙ sym (rw (le-ltb i (length b) (omega arith)))
 
 -- ---- a sum
 

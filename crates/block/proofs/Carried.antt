@@ -13,7 +13,8 @@ use lib.ListN.{length, take, drop}
 use lib.Seq.{drop-drop}
 use Rattle.terms.specs.Lists.{part, put}
 use Rattle.terms.proofs.Lists.{length_part}
-use Rattle.block.specs.Blocks.{carried}
+use Rattle.block.specs.Blocks.{copied, carried}
+use Rattle.block.proofs.Blocks.{copied_whole}
 
 pub put_mid_is : (at size : ℕ) (l b : List ℕ) → length b ≡ size → put_mid at (at + size - at) l b ≡ put at b l
 unfolding put
@@ -38,12 +39,15 @@ module _ (dst : List ℕ) (at : ℕ) (src : List ℕ) (from size : ℕ) where
   unfolding carried
   carried_whole h g = simp (le-leb (at + size) (length dst) h, le-leb (from + size) (length src) g)
 
-  -- the one part copied to the other
+  -- a copy between the two parts
   pub carried_copied : leb (at + size) (length dst) ≡ true → leb (from + size) (length src) ≡ true → (b : List ℕ)
-      → b ≡ mid_of from (from + size - from) src → put_mid at (at + size - at) dst b ≡ carried dst at src from size
+      → b ≡ copied (mid_of at (at + size - at) dst) (mid_of from (from + size - from) src) → put_mid at (at + size - at) dst b ≡ carried dst at src from size
   carried_copied h g b e =
+      let room : at + size ≤ length dst = leb-true (at + size) (length dst) h in
       let there : from + size ≤ length src = leb-true (from + size) (length src) g in
-      let is : b ≡ part from size src = e ∙ mid_part from size src in
+      let is : b ≡ part from size src =
+      e ∙ rw (mid_part at size dst, mid_part from size src)
+      (copied_whole (part at size dst) (part from size src) (length_part at size dst room ∙ sym (length_part from size src there))) in
       put_mid_is at size dst b (ap length is ∙ length_part from size src there)
       ∙ ap (λ (l : List ℕ). put at l dst) is
-      ∙ sym (carried_whole (leb-true (at + size) (length dst) h) there)
+      ∙ sym (carried_whole room there)

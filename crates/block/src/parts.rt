@@ -3,6 +3,8 @@
 ghost use Rattle.std.specs.Prelude.{◌≡◌, ◌+◌, leb, length};
 ghost use Rattle.block.specs.Blocks.{carried};
 
+use crate::copy;
+
 // Whether a slice has this many bytes from a place on.
 fn has_part(slice: &[u8], at: usize, size: usize) -> bool
     ensures { result ≡ leb (at + size) (length slice.now) }
@@ -16,6 +18,6 @@ pub fn carry(dst: &mut [u8], at: usize, src: &[u8], from: usize, size: usize)
     ensures { dst.new ≡ carried dst.old at src.now from size }
 {
     if has_part(dst, at, size) && has_part(src, from, size) {
-        dst[at..at + size].copy_from_slice(&src[from..from + size]);
+        copy(&mut dst[at..at + size], &src[from..from + size]);
     }
 }

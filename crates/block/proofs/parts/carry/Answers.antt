@@ -9,7 +9,7 @@ pub returns-then-has_part-2 : goal.returns-then-has_part-2
 returns-then-has_part-2 c =
     let a = c.args in
     carried_copied a.dst.now a.at a.src.now a.from a.size (sym c.has_part.ensures ∙ c.if-has_part.true)
-    (sym c.has_part-then-has_part.ensures ∙ c.if-has_part-2.true) _ c.copy_from_slice.ensures.after
+    (sym c.has_part-then-has_part.ensures ∙ c.if-has_part-2.true) _ c.copy.ensures
 
 pub returns-else-has_part : goal.returns-else-has_part
 returns-else-has_part c =
