@@ -25,7 +25,7 @@ pub(crate) fn unit_of(block: u64) -> u64 {
 
 // The state, the table, the work store and the image.
 // (What prints goes beside the desk: a desk that held it would be generic over it, and so would each scene's desk.)
-#[derive(Drop)]
+#[derive(Clone, Copy)]
 pub struct Desk {
     state: State,
     records: [Record; 2],

@@ -3,10 +3,12 @@
 #![tactic(auto)]
 
 use desk::Desk;
+use onward::Onward;
 use std::io;
 use touch::Touch;
 
 mod desk;
+mod onward;
 mod scenes;
 mod told;
 mod touch;
@@ -67,7 +69,6 @@ fn race(rt: &impl Print) -> io::Result<()> {
     scenes::read_back(rt, &mut desk, &LAST, 5)
 }
 
-// A write that fails ends the telling and not the program, which ends as it does where all is told.
 fn main(rt: HostRuntime) {
-    let _ = race(&rt);
+    let _ = race(&Onward(&rt));
 }
