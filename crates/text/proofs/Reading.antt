@@ -1,8 +1,8 @@
 -- A number as std reads it: of a number's decimal text it reads the number.
 -- Assumes nothing.
-use Rattle.std.proofs.Common.{ℕ, ◌<◌, ◌≡◌, refl, sym, ap, subst, ◌∙◌, Bool, true, false, List, Option, Some, None, Result, Ok, Err, Bor, arith}
+use Rattle.std.proofs.Common.{ℕ, ◌+◌, ◌<◌, ◌≡◌, refl, sym, ap, subst, ◌∙◌, Bool, true, false, List, [], ◌∷◌, Option, Some, None, Result, Ok, Err, Bor, get_or, map, length, arith}
 use Rattle.std.specs.Str.Parse.{ParsesUnsigned}
-use Rattle.std.proofs.lemmas.Fmt.{parse-decimal, IsAscii-decimal}
+use Rattle.std.proofs.lemmas.Fmt.{parse-decimal, decimal-digits_of, IsAscii-decimal}
 use Rattle.std.proofs.lemmas.Option.{none-some, same_Some}
 use Rattle.std.proofs.lemmas.Str.{IsUtf8-from_ascii}
 use Rattle.std.specs.Bool.{then_some}
@@ -10,7 +10,7 @@ use Rattle.std.specs.Result.{MatchResult, result_ok}
 use Rattle.std.specs.Str.{IsUtf8}
 use Rattle.terms.proofs.Rows.{true≢false}
 use Rattle.text.specs.Decimal.{decimal, Reads}
-use Rattle.text.proofs.Decimal.{printed}
+use Rattle.text.proofs.Decimal.{printed, decimal_length}
 
 module _ (l : List ℕ) where
   -- a text of no number from 1 to 9,999
@@ -22,6 +22,21 @@ module _ (l : List ℕ) where
         text = λ n s. absurd (none-some _ (sym e ∙ s));
         only = λ m h g t. absurd (none m h g t);
       }
+
+  -- a text is of none that is longer than theirs
+  pub too_long : 4 < length l → Reads l None
+  too_long h = reads_none refl (λ m g k t. let short = decimal_length m k in omega (arith, short, ap length t))
+
+  -- nor where it begins with a sign: theirs begin with a digit
+  pub signed : get_or l 0 0 ≡ 43 → Reads l None
+  signed e =
+      reads_none refl (λ m h k t.
+      digit_first _
+      (sym (ap (λ (x : List ℕ). get_or x 0 0) (t ∙ sym (printed m (omega arith)) ∙ decimal-digits_of m h (omega arith))) ∙ e))
+    where
+      digit_first : (ds : List ℕ) → get_or (map (λ d. 48 + d) ds) 0 0 ≡ 43 → ⊥
+      digit_first [] q = omega arith
+      digit_first (d ∷ ds) q = omega arith
 
   -- a number's text is one
   text_utf8 : (m : ℕ) → m < 10000 → l ≡ decimal m → IsUtf8 l

@@ -9,11 +9,19 @@ use itoa::Buffer;
 pub(crate) fn read_number(text: &[u8]) -> Option<u64>
     ensures { Reads text.now result }
 {
+    // a longer text is of none, and is not gone through
+    if 4 < text.len() {
+        return None;
+    }
+    // `parse` takes a sign too
+    if let [b'+', ..] = text {
+        return None;
+    }
     let n: u64 = str::from_utf8(text).ok()?.parse().ok()?;
     if !(1..=9999).contains(&n) {
         return None;
     }
-    // `parse` takes leading zeros and a sign too, which the number's own text has not.
+    // `parse` takes leading zeros too, which the number's own text has not
     let mut buffer = Buffer::new();
     let own = buffer.format(n).as_bytes();
     let is_own = own == text;

@@ -4,9 +4,15 @@ use Rattle.std.proofs.Common.{◌<◌, ◌∙◌, arith}
 use Rattle.std.proofs.lemmas.Grind.{common_steps}
 use Rattle.std.proofs.lemmas.Bool.Decides.{Decides-eqb}
 use Rattle.std.proofs.lemmas.Slice.Eq.{slice_eq-Decides}
-use Rattle.text.proofs.Reading.{no_text, same_text, unread, other_read, own_read}
+use Rattle.text.proofs.Reading.{too_long, signed, no_text, same_text, unread, other_read, own_read}
 use Rattle.text.proofs.Decimal.{printed}
 use Rattle.text.proofs.number.read_number.Goals as goal
+
+pub returns-then-text-gt4 : goal.returns-then-text-gt4
+returns-then-text-gt4 c = too_long _ (omega arith)
+
+pub returns-in-43 : goal.returns-in-43
+returns-in-43 c = signed _ (omega arith)
 
 pub returns-in_err-ok : goal.returns-in_err-ok
 returns-in_err-ok c = no_text _ _ _ c.from_utf8.ensures.cases c.ok.ensures.value c.in_err-ok.was c.from_residual.ensures
