@@ -43,6 +43,11 @@ pub still_beyond : (st : State) → st.fill ≡ no_fill → beyond_state st ≡ 
 unfolding beyond_state legal_fill
 still_beyond st e = grind (arith, nat_tests)
 
+-- with one under way, its place and that a card is out do too
+pub filling_within : (st : State) → beyond (geometry_of st) st.out ≡ false → st.fill < st.stripes → ¬ (st.out ≡ none) → beyond_state st ≡ false
+unfolding beyond_state legal_fill
+filling_within st e l d = grind (arith, nat_tests)
+
 module _ (st : State) (within : beyond_state st ≡ false) where
   -- with the first card out
   pub out_within : (c : ℕ) → st.out ≡ none → c < st.cards → beyond_state (with_out st c) ≡ false

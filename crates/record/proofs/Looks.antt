@@ -21,6 +21,15 @@ use Rattle.record.proofs.Clauses.{open_not_free}
 use Rattle.record.proofs.Soundness.{few_elim, sound_counts}
 
 module _ (st : State) (r : Record) where
+  -- a record that is not free, with what is handed on
+  pub busy_sound : (out : ℕ) → (cond (sound_record_in st r) (found st r out) (nothing false)).sound ≡ sound_record_in st r
+  unfolding found nothing
+  busy_sound out = go (sound_record_in st r)
+    where
+      go : (b : Bool) → (cond b (found st r out) (nothing false)).sound ≡ b
+      go true = refl
+      go false = refl
+
   -- soundness, and what is found, depend on the cards, the stripes, the layout and the card that is missing in the record's stripe
   as_seen : sound_record_in (seen_as st.cards st.stripes st.layout (out_in st r.stripe)) r ≡ sound_record_in st r
   unfolding sound_record_in sound_record legal_record legal_chosen right_graph right_steps right_count lacks_none out_in filled
