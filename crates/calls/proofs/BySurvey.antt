@@ -7,11 +7,12 @@ use mathlib.Core.List.{List}
 use mathlib.Core.Path.{◌≡◌, sym, ap, ap₂, ◌∙◌}
 use borrow.Author.Tests.{eqb-false}
 use lib.ListN.{length, get_or, set, replicate}
-use Rattle.std.specs.Prelude.{Result, Ok, Err, ⊤, is_ok}
+use Rattle.std.specs.Prelude.{Result, Ok, Err, ⊤, eqb}
 use Rattle.terms.specs.Reply.{Reply, refusal_reply, number_of, done_reply}
 use Rattle.terms.specs.declared.refusal.Refusal.{Refusal}
 use Rattle.terms.proofs.Answers.{number_not_0}
 use Rattle.geometry.specs.declared.Geometry.{Geometry}
+use Rattle.geometry.specs.Report.{state_reply}
 use Rattle.geometry.specs.declared.State.{State}
 use Rattle.parity.specs.Rest.{restored_in}
 use Rattle.record.proofs.Rest.{survey_whole}
@@ -20,7 +21,6 @@ use Rattle.record.specs.Survey.{survey_of, survey_but}
 use Rattle.record.specs.declared.Record.{Record}
 use Rattle.array.proofs.Admissions.{admit_number_law, admit_refused}
 use Rattle.array.proofs.Collections.{collect_number_law, collect_refused}
-use Rattle.array.proofs.Openings.{open_number_law, open_refused}
 use Rattle.array.proofs.Steppings.{step_number_law, step_refused}
 use Rattle.array.specs.Admission.{Admission, admission_by, admission}
 use Rattle.array.specs.Collection.{Collection, collection_by, collection}
@@ -51,14 +51,12 @@ module _ {A : Type 0} where
 module _ (l : List Record) where
   -- the records are freed where the opening is accepted
   pub open_lent : (g : Geometry) (out : ℕ) (work image : List ℕ) (o : Result State Refusal) (accepts : Bool) (t : List Record)
-      → OpeningIs (opening_by g out (length l) work image) o → accepts ≡ is_ok o → t ≡ cond accepts (replicate (length l) free) l
+      → OpeningIs (opening_by g out (length l) work image) o → accepts ≡ eqb (state_reply o).number 0 → t ≡ cond accepts (replicate (length l) free) l
       → OpeningLent (opening g out l work image) o t
   unfolding opening
-  open_lent g out work image (Ok s) accepts t is e frees =
-      record { reply = is.reply; new_state = is.state; table_left = frees ∙ rw (e, ap (λ (r : Reply). r.number) (sym is.reply)) }
-  open_lent g out work image (Err r) accepts t is e frees =
-      let left = open_refused g out l work image (refuses r is.reply (open_number_law g out l work image)) in
-      record { reply = is.reply; new_state = is.state; table_left = frees ∙ rw e (sym left.1) }
+  open_lent g out work image o accepts t is e frees =
+      let same : accepts ≡ eqb (opening_by g out (length l) work image).reply.number 0 = e ∙ ap (λ (r : Reply). eqb r.number 0) is.reply in
+      record { reply = is.reply; new_state = is.state; table_left = frees ∙ ap (λ (b : Bool). cond b (replicate (length l) free) l) same }
 
   module _ (st : State) where
     pub admit_lent : (work image : List ℕ) (write : Bool) (s mask : ℕ) (payload : List ℕ) (o : Result (Changed ℕ) Refusal) (w : List ℕ)

@@ -4,7 +4,7 @@
 // Assumes nothing.
 #![tactic(auto)]
 
-ghost use Rattle.std.specs.Prelude.{◌≡◌, set};
+ghost use Rattle.std.specs.Prelude.{◌≡◌, eqb, set};
 ghost use Rattle.terms.specs.Reply.{done_reply};
 ghost use Rattle.array.specs.Admission.{admission};
 ghost use Rattle.array.specs.Collection.{collection};
@@ -14,7 +14,7 @@ ghost use Rattle.array.specs.Scan.{scan_reply};
 ghost use Rattle.array.specs.Stepping.{stepping};
 ghost use Rattle.calls.specs.Lent.{OpeningLent, AdmissionLent, SteppingLent, CollectionLent, RebuildingLent};
 ghost use Rattle.geometry.specs.Fill.{StartingIs, starting};
-ghost use Rattle.geometry.specs.Report.{ReportingIs, reporting};
+ghost use Rattle.geometry.specs.Report.{ReportingIs, reporting, state_reply};
 
 use array::answers::{Changed, Stepped};
 use geometry::{Geometry, State};
@@ -31,6 +31,16 @@ fn put<A>(table: &mut [Record], changed: Changed<A>) -> A
     changed.answer
 }
 
+// Whether an opening is accepted.
+pub fn is_open(answer: Result<State, Refusal>) -> bool
+    ensures { result ≡ eqb (state_reply answer).number 0 }
+{
+    match answer {
+        Ok(_) => true,
+        Err(_) => false,
+    }
+}
+
 // Opens an array: the new state. Where it is accepted, every record is freed.
 pub fn open(
     geometry: Geometry,
@@ -43,7 +53,7 @@ pub fn open(
 {
     let len = count(table);
     let opened = array::open_by(geometry, out, len, work, image);
-    freed(table, opened.is_ok());
+    freed(table, is_open(opened));
     opened
 }
 

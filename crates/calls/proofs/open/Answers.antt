@@ -7,4 +7,4 @@ pub returns : goal.returns
 returns c =
     let a = c.args in
     let is = rw c.count-len.ensures at c.open_by-opened.ensures in
-    open_lent a.table.now a.geometry a.out a.work.now a.image.now _ _ _ is c.is_ok.ensures.value c.freed.ensures
+    open_lent a.table.now a.geometry a.out a.work.now a.image.now _ _ _ is c.is_open.ensures c.freed.ensures
