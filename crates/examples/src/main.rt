@@ -2,9 +2,13 @@
 // N = 5 and S = 5 unless said.
 #![tactic(auto)]
 
+ghost use Rattle.std.specs.Prelude.{◌≡◌};
+ghost use Rattle.terms.specs.Reply.{accepted, reply_of};
+ghost use Rattle.geometry.specs.Answers.{place_reply};
+
 use geometry::{Geometry, LEVEL_5, NONE, Placed};
 use record::Record;
-use std::{fmt, io};
+use std::fmt;
 use terms::Refusal;
 
 // What came out: where a block is, a graph by its number, or that the call was accepted.
@@ -36,9 +40,12 @@ fn shape(cards: u64, stripes: u64, block: u64) -> Geometry {
     }
 }
 
-// Where a block is.
-fn place(block: u64) -> Result<Said, Refusal> {
-    shape(5, 5, 16).place(block).map(Said::At)
+// Where a block is, or why not.
+fn place(block: u64) -> Result<Said, Refusal>
+    ensures { (reply_of (λ said. accepted 0 0) result).number ≡ (place_reply 5 5 5 block).number }
+{
+    let place = Geometry::places(5, 5, LEVEL_5).place(block)?;
+    Ok(Said::At(place))
 }
 
 // How an array of this geometry opens, lent what is right for 5 cards, 5 stripes and blocks of 16 bytes.
@@ -79,35 +86,29 @@ fn read(mask: u64) -> Result<Said, Refusal> {
     Ok(Said::Accepted)
 }
 
-// Tells what came out of an example, and of a refusal the paper's number.
-fn tell(rt: &impl Print, name: &str, answer: Result<Said, Refusal>) -> io::Result<()> {
-    match answer {
+// Tells what came out of an example, and of a refusal the paper's number. A write that fails is passed over.
+fn tell(rt: &impl Print, name: &str, answer: Result<Said, Refusal>) {
+    let _ = match answer {
         Ok(said) => println!(rt; "{name}: {said}"),
         Err(refusal) => println!(rt; "{name}: refused by {}", refusal.number()),
-    }
+    };
 }
 
-// Tells every example.
-fn tell_all(rt: &impl Print) -> io::Result<()> {
-    tell(rt, "block 19", place(19))?;
-    tell(rt, "block 20", place(20))?;
-    tell(rt, "none out, m=4", graph(NONE))?;
+fn main(rt: HostRuntime) {
+    tell(&rt, "block 19", place(19));
+    tell(&rt, "block 20", place(20));
+    tell(&rt, "none out, m=4", graph(NONE));
     tell(
-        rt,
+        &rt,
         "parity out, m=4",
         graph(geometry::card_at(5, LEVEL_5, 0, 4)),
-    )?;
-    tell(rt, "N=2", open(shape(2, 5, 16)))?;
-    tell(rt, "N=9", open(shape(9, 5, 16)))?;
-    tell(rt, "B=24", open(shape(5, 5, 24)))?;
-    tell(rt, "S=0", open(shape(5, 0, 16)))?;
-    tell(rt, "S=1025", open(shape(5, 1025, 16)))?;
-    tell(rt, "mask 0", read(0))?;
-    tell(rt, "mask 16", read(16))?;
-    tell(rt, "mask 15", read(15))
-}
-
-// A write that fails ends the telling and not the program, which ends as it does where all is told.
-fn main(rt: HostRuntime) {
-    let _ = tell_all(&rt);
+    );
+    tell(&rt, "N=2", open(shape(2, 5, 16)));
+    tell(&rt, "N=9", open(shape(9, 5, 16)));
+    tell(&rt, "B=24", open(shape(5, 5, 24)));
+    tell(&rt, "S=0", open(shape(5, 0, 16)));
+    tell(&rt, "S=1025", open(shape(5, 1025, 16)));
+    tell(&rt, "mask 0", read(0));
+    tell(&rt, "mask 16", read(16));
+    tell(&rt, "mask 15", read(15));
 }
