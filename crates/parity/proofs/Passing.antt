@@ -3,7 +3,7 @@
 use Prim.Native.Nat.{ℕ, ◌<◌}
 use mathlib.Core.Bool.{Bool, true, false, not, ◌&&◌, ◌||◌}
 use mathlib.Core.List.{List, [], ◌∷◌}
-use mathlib.Core.Path.{◌≡◌, refl, sym, ap}
+use mathlib.Core.Path.{◌≡◌, refl, sym, ap, ◌∙◌}
 use borrow.Author.Tests.{ne_eqb}
 use Rattle.std.specs.List.{list_any}
 use lib.Dec.{ltb, eqb}
@@ -28,6 +28,9 @@ among_is (h ∷ skip) s = go (eqb h s) (among_is skip s)
     go : (b : Bool) → list_any (λ h. eqb h s) skip ≡ not (every (λ h. not (eqb h s)) skip) → (b || list_any (λ h. eqb h s) skip) ≡ not (not b && every (λ h. not (eqb h s)) skip)
     go true e = refl
     go false e = e
+
+pub is_among : (skip : List ℕ) (s : ℕ) (b : Bool) → b ≡ list_any (λ h. eqb h s) skip → b ≡ among skip s
+is_among skip s b e = e ∙ among_is skip s
 
 -- two ways to say which stripes are passed over, the same below S
 module _ (N S B : ℕ) (image : List ℕ) (p q : ℕ → Bool) (same : (s : ℕ) → s < S → p s ≡ q s) where

@@ -107,7 +107,7 @@ impl<'a> Cells<'a> {
         let mut answer = Ok(());
         let mut sum = ZEROS;
         'scan: for stripe in 0..self.stripes {
-            if skip.contains(&(stripe as u64)) {
+            if is_passed(&skip, stripe as u64) {
                 continue;
             }
             // beside the number after the last card's are all of them; with N in its place a pass over 8 cards took 29 % more instructions
@@ -138,6 +138,14 @@ impl<'a> Cells<'a> {
             _ => self.scan_all::<8>(skip),
         }
     }
+}
+
+// Whether a stripe is among those to pass over.
+#[tactic(auto, using(crate::proofs::Passing::is_among))]
+fn is_passed(skip: &[u64; 8], stripe: u64) -> bool
+    ensures { result ≡ among skip.now stripe }
+{
+    skip.contains(&stripe)
 }
 
 // The k-th card beside one, ascending.

@@ -8,16 +8,15 @@ use borrow.Author.Count.{below_more}
 use Rattle.std.proofs.lemmas.List.{get_or-take, length-take-le}
 use Rattle.terms.specs.Reply.{done_reply}
 use Rattle.parity.proofs.Found.{Looking, wrong_in, reports_passed, reports_right, reports_wrong, sum_right, sum_clear, sum_wrong_byte, looked_right, looked_wrong}
-use Rattle.parity.proofs.Passing.{among_is}
 use Rattle.parity.proofs.Restored.{all_cards}
 use Rattle.parity.proofs.image.Cells.scan_all.Invariants.{looking}
 use Rattle.parity.proofs.image.Cells.scan_all.Goals as goal
 
-pub scan-preserved-then-contains : goal.scan-preserved-then-contains
-scan-preserved-then-contains g c =
+pub scan-preserved-then-is_passed : goal.scan-preserved-then-is_passed
+scan-preserved-then-is_passed g c =
     let at = c.scan in
     let l : Looking = looking c.args.self.cards c.args.self.stripes c.args.self.size c.args.self.image.now c.args.skip in (
-      below_more _ _ at.invariant.0 (reports_passed l at.stripe (sym (among_is c.args.skip at.stripe) ∙ sym c.contains.ensures.value ∙ c.if-contains.true)),
+      below_more _ _ at.invariant.0 (reports_passed l at.stripe (sym c.is_passed.ensures ∙ c.if-is_passed.true)),
       at.invariant.1,
       at.invariant.2,
     )
@@ -58,7 +57,7 @@ returns-then-b-ne0 g c =
     byte inside (λ z. c.if-b-ne0.true (get_or-take cells.size sum byte 0 inside ∙ z))
     (λ k m. sym (get_or-take cells.size sum k 0 (omega arith)) ∙ c.loop-byte.invariant.0 k m) in
     looked_wrong l at.stripe byte c.scan-test.true
-    (reports_wrong l at.stripe (sym (among_is c.args.skip at.stripe) ∙ sym c.contains.ensures.value ∙ c.if-contains.false) (rw wrong inside))
+    (reports_wrong l at.stripe (sym c.is_passed.ensures ∙ c.if-is_passed.false) (rw wrong inside))
     at.invariant.0 wrong
 
 pub returns-after-scan : goal.returns-after-scan
